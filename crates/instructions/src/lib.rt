@@ -1,0 +1,19 @@
+//! Instruction List: instructions, their words and their lines.
+mod instruction;
+mod line;
+mod listing;
+mod report;
+mod store;
+mod survey;
+mod text;
+mod word;
+
+pub use instruction::Instruction;
+pub use instruction::Operand;
+pub use report::ShortBuffer;
+pub use report::write_refusal;
+pub use report::write_status;
+pub use store::Full;
+pub use store::Store;
+pub use survey::depth;
+pub use word::words_agree;

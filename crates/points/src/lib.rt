@@ -1,0 +1,5 @@
+//! The points of the signal mast.
+mod point;
+
+pub use point::Area;
+pub use point::Point;
