@@ -1,2 +1,5 @@
 pub mod Faults
 pub mod Bits
+pub mod Rungs
+pub mod Reading
+pub mod Cards

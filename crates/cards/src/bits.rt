@@ -8,14 +8,14 @@ use super::fault::CardFault;
 
 /// The bytes of a card, and the bit at which the next field starts.
 #[derive(Drop)]
-pub struct Bits<'a> {
-    bytes: &'a [u8],
-    at: u32,
+pub(crate) struct Bits<'a> {
+    pub(crate) bytes: &'a [u8],
+    pub(crate) at: u32,
 }
 
 impl Bits<'_> {
     /// The number in the next `width` bits; where the card ends before the field does, nothing moves.
-    fn field(&mut self, width: u32) -> Result<u16, CardFault>
+    pub(crate) fn field(&mut self, width: u32) -> Result<u16, CardFault>
         requires near { ⌜ now self .at ≤ 1000000 ⌝ }
         requires narrow { ⌜ width ≤ 16 ⌝ }
         ensures value { λ r. ⌜ r ≡ fieldAt (now (now (self .entry) .bytes)) (now (self .entry) .at) width ⌝ }
@@ -40,11 +40,14 @@ impl Bits<'_> {
     }
 }
 
-fn bit(bytes: &[u8], i: u32) -> u8
-    requires { ⌜ i < 8 * length (now bytes) ⌝ }
+/// Bit `i` of the bytes; past their end, 0.
+pub(crate) fn bit(bytes: &[u8], i: u32) -> u8
     ensures value { λ r. ⌜ r ≡ getD (bits (now (bytes .entry))) i 0 ⌝ }
     ensures small { λ r. ⌜ r < 2 ⌝ }
 {
-    let byte = bytes[(i / 8) as usize];
-    (byte >> (7 - i % 8)) % 2
+    let index = (i / 8) as usize;
+    if index >= bytes.len() {
+        return 0;
+    }
+    (bytes[index] >> (7 - i % 8)) % 2
 }

@@ -1,6 +1,6 @@
 //! Points by area and number, and their indices in a bank.
 ghost use mathlib.Core.Path.{_≡_};
-ghost use Rattle.points.specs.Points.{areaCode, indexOf};
+ghost use Rattle.points.specs.Points.{areaCode, areaOf, indexOf};
 
 /// The three areas of 256 points each.
 #[derive(Clone, Copy)]
@@ -19,6 +19,18 @@ impl Area {
             Area::Input => 1,
             Area::Output => 2,
             Area::Marker => 3,
+        }
+    }
+
+    /// The area of a number, if there is one.
+    pub fn from_code(code: u16) -> Option<Area>
+        ensures { λ r. ⌜ r ≡ areaOf code ⌝ }
+    {
+        match code {
+            1 => Some(Area::Input),
+            2 => Some(Area::Output),
+            3 => Some(Area::Marker),
+            _ => None,
         }
     }
 }

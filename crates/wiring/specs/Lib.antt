@@ -1,1 +1,10 @@
 pub mod Drawn
+pub mod Lists
+pub mod Wiring
+pub mod Text
+pub mod Circuit
+pub mod Paths
+pub mod Value
+pub mod Worked
+pub mod Theorems
+pub mod Elimination

@@ -29,7 +29,7 @@ pub struct Link {
 #[derive(Clone, Copy)]
 pub enum Action {
     Store,
-    StoreInverse,
+    StoreNot,
     Set,
     Reset,
 }

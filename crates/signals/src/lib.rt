@@ -1,0 +1,4 @@
+//! Signal kinds.
+mod signal;
+
+pub use signal::Signal;

@@ -1,0 +1,16 @@
+pub mod Members
+pub mod Joints
+pub mod Readings
+pub mod Groups
+pub mod EndGroups
+pub mod Cuts
+pub mod Uniqueness
+pub mod Once
+pub mod Soundness
+pub mod Circuits
+pub mod Tidy
+pub mod Paths
+pub mod Values
+pub mod Lengths
+pub mod Worked
+pub mod Drawing
