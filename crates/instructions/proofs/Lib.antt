@@ -1,3 +1,4 @@
 pub mod Words
+pub mod Deepest
 pub mod Texts
 pub mod Reports

@@ -4,3 +4,4 @@ pub mod Texts
 pub mod Lines
 pub mod Stores
 pub mod Reports
+pub mod Depth

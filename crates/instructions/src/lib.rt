@@ -1,4 +1,5 @@
 //! Instruction List: instructions, their words and their lines.
+mod brackets;
 mod instruction;
 mod line;
 mod listing;
@@ -8,6 +9,7 @@ mod survey;
 mod text;
 mod word;
 
+pub use brackets::depth;
 pub use instruction::Instruction;
 pub use instruction::Operand;
 pub use report::ShortBuffer;
@@ -15,5 +17,4 @@ pub use report::write_refusal;
 pub use report::write_status;
 pub use store::Full;
 pub use store::Store;
-pub use survey::depth;
 pub use word::words_agree;

@@ -65,11 +65,6 @@ fn seen_in(words: &[u16]) -> Survey {
     seen
 }
 
-/// The greatest number of brackets open at once in the words.
-pub fn depth(words: &[u16]) -> usize {
-    seen_in(words).depth
-}
-
 impl Store {
     /// Rungs, words, greatest depth, and the first rung with that depth; 0 if there are no rungs.
     pub fn counts(&self) -> (usize, usize, usize, usize) {

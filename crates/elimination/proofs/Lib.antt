@@ -1,0 +1,10 @@
+pub mod Falls
+pub mod Edges
+pub mod Scans
+pub mod Gathering
+pub mod Merging
+pub mod Eliminating
+pub mod Placing
+pub mod Picking
+pub mod Reducing
+pub mod Answering
