@@ -30,6 +30,7 @@ use Rattle.elimination.proofs.Edges.{rising-edges}
 use Rattle.elimination.proofs.Merging.{a-group}
 use Rattle.elimination.proofs.Reducing.{straight-all}
 
+-- a group has edges, and no group has none
 some-of : (j : ℕ) (ns : List Node) (len : ℕ) (L : List Edge) (h : Group) → Holds j ns len L (Some h) → (e : Edge) × In e L
 some-of j ns len [] h u = absurd u
 some-of j ns len (e ∷ L) h u = (e, inl refl)

@@ -21,6 +21,7 @@ use Rattle.elimination.specs.declared.table.Node.{Node}
 use Rattle.elimination.specs.Groups.{Grown}
 use Rattle.elimination.specs.Slots.{edge, edges, live, near-of, touch, spared, low-at, Stands}
 
+-- empty and filled slots
 pub none-some : {X : Type 0} {x : X} → None ≡ Some x → ⊥
 none-some e = let z : _≡_ {A = ℕ} 0 1 = cc in omega arith
 
@@ -35,6 +36,7 @@ pub touch-some : (s : Side) (x : ℕ) (o : Option Active) (a : Active) → touch
 touch-some s x None a e = e
 touch-some s x (Some c) a e = ap Some (touch-some-at (eqb (near-of s c) x) c a e)
 
+-- the edge e stands in a slot
 pub record At (ns : List Node) (l : List (Option Active)) (e : Edge) : Type 0 where
   pub slot : ℕ
   pub active : Active
@@ -54,6 +56,7 @@ edges-in ns (None ∷ l) (suc k) a h = edges-in ns l k a h
 edges-in ns (Some b ∷ l) zero a h = inl (ap (edge ns) (sym (some-same h)))
 edges-in ns (Some b ∷ l) (suc k) a h = inr (edges-in ns l k a h)
 
+-- the edges rise, since each stands in the slot of its lowest link
 rising-from : (ns : List Node) (l : List (Option Active)) (j : ℕ) → ((k : ℕ) (a : Active) → getD l k None ≡ Some a → low-at ns (a .at) ≡ j + k) → Rising (edges ns l)
 rising-from ns [] j f = tt
 rising-from ns (None ∷ l) j f = rising-from ns l (suc j) (λ k a h. let p = f (suc k) a h in omega arith)
@@ -191,6 +194,7 @@ edge-between u w t = record { from = u; to = w; tree = t }
 pub edge-grown : (ns : List Node) (len : ℕ) (ns′ : List Node) (len′ : ℕ) → Grown ns len ns′ len′ → (a : Active) → a .at < len → edge ns′ a ≡ edge ns a
 edge-grown ns len ns′ len′ G a h = ap (edge-between (a .from) (a .to)) (G .same (a .at) h)
 
+-- what stands in a table stands in one that has grown
 pub stands-grown : (ns : List Node) (len : ℕ) (ns′ : List Node) (len′ : ℕ) (l : List (Option Active)) → Grown ns len ns′ len′ → Stands ns len l → Stands ns′ len′ l
 stands-grown ns len ns′ len′ l G S k a h =
     let f = S k a h in

@@ -27,6 +27,7 @@ both : (a b : Bool) → a ≡ true → b ≡ true → (a && b) ≡ true
 both true b p q = q
 both false b p q = p
 
+-- the test at each position
 lower-at : (ns : List Node) (j i : ℕ) → lower j ns ≡ true → below (j + i) (getD ns i (Link 0)) ≡ true
 lower-at [] j i e = refl
 lower-at (n ∷ ns) j zero e = subst (λ k. below k n ≡ true) (sym (add-zero j)) (and-left _ _ e)
@@ -48,6 +49,7 @@ same-formed f g i (Parallel a b) l e =
     let q : b < i = grind (arith, tells) in
     let x = e a p in let y = e b q in cc
 
+-- following further down changes nothing
 enough : (ns : List Node) → lower 0 ns ≡ true → (k m i : ℕ) → i < k → i < m → treeOf k ns i ≡ treeOf m ns i
 unfolding treeOf
 enough ns e zero m i h l = absurd (omega arith)
@@ -96,6 +98,7 @@ same-below ns len n e (suc k) i h =
     ap (formed (treeOf k (set ns len n))) (getD-set-other ns len i n (Link 0) ne)
     ∙ same-formed (treeOf k (set ns len n)) (treeOf k ns) i (getD ns i (Link 0)) (below-at ns i e) (λ j l. same-below ns len n e k j (omega arith))
 
+-- the positions before it keep their wirings, and it has its own
 pub tree-same : (ns : List Node) (len : ℕ) (n : Node) → lower 0 ns ≡ true → (i : ℕ) → i < len → treeAt (set ns len n) i ≡ treeAt ns i
 unfolding treeAt
 tree-same ns len n e i h = same-below ns len n e (suc i) i h

@@ -20,6 +20,7 @@ use Rattle.elimination.specs.Trees.{treeAt}
 use Rattle.elimination.proofs.Edges.{touch-some}
 use Rattle.elimination.proofs.Scans.{back-one}
 
+-- what a table that grows keeps
 pub grown-same : (ns : List Node) (len : ℕ) → Grown ns len ns len
 grown-same ns len = record { more = omega arith; same = λ i h. refl }
 
@@ -37,6 +38,7 @@ holds-grown j j′ ns len ns′ len′ p h (e ∷ L) (Some g) u =
     let m = p .more in let a = u .0 in let b = u .3 in
     (omega arith, p .same (g .at) a ∙ u .1, low-grown p (g .at) a ∙ u .2, omega arith, u .4)
 
+-- the lowest link of a join
 low-parallel : (a b : Wiring ℕ) → text link-text (parallel a b) .low ≡ min (text link-text a .low) (text link-text b .low)
 unfolding in-parallel
 low-parallel a b = refl
@@ -45,6 +47,7 @@ pub low-series : (a b : Wiring ℕ) → text link-text (series a b) .low ≡ min
 unfolding in-series
 low-series a b = refl
 
+-- the first edge of a group, and one edge more
 holds-first : (i : ℕ) (ns : List Node) (len : ℕ) (ns1 : List Node) (len1 : ℕ) (ns2 : List Node) (len2 : ℕ) (a : Active) (L : List Edge) → Fine ns len i a → i < 64 → Grown ns len ns2 len2 → Holds (i + 1) ns1 len1 L None → Holds i ns2 len2 (edge ns a ∷ L) (Some (record { at = a .at; low = i }))
 holds-first i ns len ns1 len1 ns2 len2 a [] f h p u =
     let k = f .at in let m = p .more in
@@ -61,6 +64,7 @@ holds-more i ns len ns1 len1 ns2 len2 a (e ∷ L) h f l p n t u =
     let low3 : low-at ns2 len1 ≡ min (low-at ns1 (a .at)) (low-at ns1 (h .at)) = ap (λ z. text link-text z .low) t ∙ low-parallel (treeAt ns1 (a .at)) (treeAt ns1 (h .at)) in
     (omega arith, t ∙ ap₂ parallel (p .same (a .at) k) (u .1), omega arith, omega arith, l)
 
+-- one slot more
 pub gathered-more : (i : ℕ) (o : Option Active) (l : List (Option Active)) (ns : List Node) (len : ℕ) (ns1 : List Node) (len1 : ℕ) (ns2 : List Node) (len2 : ℕ) (g r : Option Group) → ((a : Active) → o ≡ Some a → Fine ns len i a) → i < 64 → Gathered (i + 1) l ns len ns1 len1 g → Grown ns1 len1 ns2 len2 → Extends i ns1 len1 ns2 len2 o g r → Gathered i (o ∷ l) ns len ns2 len2 r
 gathered-more i None l ns len ns1 len1 ns2 len2 g r f h G p x =
     let q = ap size (x .0) in let n = x .1 in let m = G .room in
@@ -84,6 +88,7 @@ gathered-more i (Some a) l ns len ns1 len1 ns2 len2 (Some k) r f h G p x =
       group = subst (λ z. Holds i ns2 len2 (edge ns a ∷ edges ns l) z) (sym (x .0)) (holds-more i ns len ns1 len1 ns2 len2 a (edges ns l) k (f a refl) h (G .grown) (x .1) (x .2) (G .group));
     }
 
+-- before the first slot, and one slot back
 pub gathered-none : (i : ℕ) (s : Side) (x : ℕ) (xs : List (Option Active)) (ns : List Node) (len : ℕ) → length xs ≤ i → Gathered i (map (touch s x) (drop i xs)) ns len ns len None
 gathered-none i s x xs ns len h =
     subst (λ l. Gathered i (map (touch s x) l) ns len ns len None) (sym (drop-all i xs h))

@@ -19,6 +19,7 @@ use Rattle.elimination.specs.Trees.{treeAt}
 use Rattle.elimination.proofs.Edges.{in-touch, touch-grown}
 use Rattle.elimination.proofs.Gathering.{grown-on, low-series}
 
+-- some edges make a group
 no-group : (j : ℕ) (ns : List Node) (len : ℕ) (L : List Edge) (e : Edge) → In e L → Holds j ns len L None → ⊥
 no-group j ns len [] e i h = i
 no-group j ns len (f ∷ L) e i h = h
@@ -33,7 +34,7 @@ pub a-group : (j : ℕ) (ns : List Node) (len : ℕ) (L : List Edge) (h : Group)
 a-group j ns len [] h u = absurd u
 a-group j ns len (e ∷ L) h u = record { at = u .0; tree = u .1; low = u .2; small = u .4 }
 
--- some edge runs-straight into x, and some out of it, so there are groups of them
+-- some edge goes into x, and some out of it, so there are groups of them
 pub some-into : (x u w : ℕ) (ns : List Node) (l : List (Option Active)) (j : ℕ) (ns′ : List Node) (len′ : ℕ) (r : Option Group) → Eligible (edges ns l) x u w → Holds j ns′ len′ (edges ns (map (touch Entering x) l)) r → r ≡ None → ⊥
 some-into x u w ns l j ns′ len′ r E h e =
     let s = E .some-in in
@@ -44,6 +45,7 @@ some-out x u w ns l j ns1 ns′ len′ r q E h e =
     let s = E .some-out in
     no-group j ns′ len′ (edges ns (map (touch Leaving x) l)) (s .0) (in-touch Leaving x ns l (s .0) .1 (s .1, s .2)) (subst (λ z. Holds j ns′ len′ (edges ns (map (touch Leaving x) l)) z) e (subst (λ L. Holds j ns′ len′ L r) q h))
 
+-- the two groups with the node that joins them
 pub merged : (x : ℕ) (l : List (Option Active)) (ns : List Node) (len : ℕ) (ns1 : List Node) (len1 : ℕ) (ns2 : List Node) (len2 : ℕ) (ns3 : List Node) (len3 : ℕ) (a b h : Group) → Stands ns len l → Gathered 0 (map (touch Entering x) l) ns len ns1 len1 (Some a) → Gathered 0 (map (touch Leaving x) l) ns1 len1 ns2 len2 (Some b) → h .at ≡ len2 → len3 ≡ len2 + 1 → treeAt ns3 len2 ≡ series (treeAt ns2 (a .at)) (treeAt ns2 (b .at)) → ((i : ℕ) → i < len2 → treeAt ns3 i ≡ treeAt ns2 i) → h .low ≡ min (a .low) (b .low) → Merged x l ns len ns3 len3 h
 merged x l ns len ns1 len1 ns2 len2 ns3 len3 a b h S G K at n t same low =
     let A = a-group 0 ns1 len1 (edges ns (map (touch Entering x) l)) a (G .group) in

@@ -79,6 +79,7 @@ passes x A (One u) (One w) p s t e =
     subst (λ z. Passes x A z) (some-same e)
     (record { joint = refl; may = record { some-in = s .0; some-out = t .0; from-u = s .1; to-w = t .1 } })
 
+-- and one that cannot
 blocked : (x : ℕ) (A : List Edge) (a b : FarEnds) → Tells Entering x A a → Tells Leaving x A b → passage-of x a b ≡ None → (u w : ℕ) → Eligible A x u w → ⊥
 blocked x A Nothing b s t e u w E = s (E .some-in .0) (E .some-in .1) (E .some-in .2)
 blocked x A Several b s t e u w E = s .6 (E .from-u (s .0) (s .2) (s .3) ∙ sym (E .from-u (s .1) (s .4) (s .5)))
@@ -98,6 +99,7 @@ pub not-chosen : (g : Bool) (x : ℕ) (ns : List Node) (l : List (Option Active)
 not-chosen true x ns l f e u w E = let z : _≡_ {A = ℕ} 0 1 = cc in absurd (omega arith)
 not-chosen false x ns l f e u w E = blocked x (edges ns l) _ _ (neighbours-tell Entering x ns l) (neighbours-tell Leaving x ns l) e u w E
 
+-- a joint that is picked can be eliminated, and is not gone
 pub picked-may : (joints : ℕ) (gone : List Bool) (ns : List Node) (l : List (Option Active)) (p : Passage) → Picked joints gone l (Some p) → Eligible (edges ns l) (p .joint) (p .from) (p .to)
 picked-may joints gone ns l p P = chosen (getD gone (p .joint) false) (p .joint) ns l p (P .2) .may
 

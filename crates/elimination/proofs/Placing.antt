@@ -1,6 +1,5 @@
 -- The links in their slots.
 use mathlib.Core.Path.{_≡_, refl, sym, ap, ap₂, subst, _∙_}
-use mathlib.Core.Bool.{true}
 use mathlib.Core.List.{List, [], _∷_, _++_}
 use Prim.Native.Nat.{ℕ, zero, suc, _+_, _-_, _≤_, _<_}
 use native.Mathlib.Decide.{ℕ-discrete}
@@ -10,9 +9,8 @@ use lib.ListN.{length, getD, set, replicate, take, length-take}
 use Rattle.std.proofs.shelf.Lists.{getD-set-same, getD-set-other, length-set}
 use Rattle.std.specs.declared.option.Option.{Option}
 use Rattle.std.specs.declared.option.Option.the-variants.{Some, None}
-use Rattle.wiring.specs.declared.rung.Contact.the-variants.{Wire}
 use Rattle.wiring.specs.declared.rung.Link.{Link}
-use Rattle.wiring.specs.Circuit.{Circuit, circuit}
+use Rattle.wiring.specs.Circuit.{Circuit, circuit, bare}
 use Rattle.wiring.specs.declared.rung.Rung.{Rung}
 use Rattle.wiring.specs.Drawn.{linked}
 use Rattle.wiring.specs.Elimination.{first-edges}
@@ -23,11 +21,12 @@ use Rattle.wiring.proofs.Drawing.{linked-at}
 use Rattle.elimination.specs.declared.slots.Active.{Active}
 use Rattle.elimination.specs.declared.table.Node.{Node}
 use Rattle.elimination.specs.Groups.{Grown}
-use Rattle.elimination.specs.Reduction.{Placed}
+use Rattle.elimination.specs.Reduction.{Loopless, Placed}
 use Rattle.elimination.specs.Slots.{edge, edges, live, Fine}
 use Rattle.elimination.specs.Trees.{treeAt}
 use Rattle.elimination.proofs.Edges.{none-some, some-same, live-set, edge-between, stands-grown, edges-grown}
 
+-- a list of one value throughout
 pub none-at : {X : Type 0} (x : X) (n k : ℕ) → getD (replicate n x) k x ≡ x
 none-at x zero k = refl
 none-at x (suc n) zero = refl
@@ -41,6 +40,7 @@ none-live : (n : ℕ) → live (replicate n None) ≡ 0
 none-live zero = refl
 none-live (suc n) = none-live n
 
+-- before the first link
 pub placed-none : (links : List Link) (l : List (Option Active)) (ns : List Node) (len : ℕ) → l ≡ replicate 64 None → len ≡ 0 → length l ≡ 64 → Placed 0 links l ns len
 placed-none links l ns len e z long = record {
   edges-are = λ c q. ap (edges ns) e ∙ no-edges ns 64;
@@ -51,6 +51,7 @@ placed-none links l ns len e z long = record {
   long = long;
 }
 
+-- an edge in the first slot after the filled ones comes last
 none-edges : (ns : List Node) (l : List (Option Active)) → ((k : ℕ) → getD l k None ≡ None) → edges ns l ≡ []
 none-edges ns [] f = refl
 none-edges ns (None ∷ l) f = none-edges ns l (λ k. f (suc k))
@@ -65,10 +66,11 @@ edges-push ns (Some b ∷ l) zero a h f = absurd (none-some (sym (f zero (omega 
 edges-push ns (None ∷ l) (suc k) a h f = edges-push ns l k a (omega arith) (λ j q. f (suc j) (omega arith))
 edges-push ns (Some b ∷ l) (suc k) a h f = ap (λ z. edge ns b ∷ z) (edges-push ns l k a (omega arith) (λ j q. f (suc j) (omega arith)))
 
-pub placed-more : (i : ℕ) (links : List Link) (l : List (Option Active)) (ns : List Node) (len : ℕ) (ns′ : List Node) (len′ at : ℕ) → Placed i links l ns len → i < 64 → i < length links → (joints : ℕ) → linked joints links ≡ true → at ≡ len → len′ ≡ len + 1 → treeAt ns′ len ≡ link i → ((k : ℕ) → k < len → treeAt ns′ k ≡ treeAt ns k) → Placed (i + 1) links (set l i (Some (record { from = getD links i (record { from = 0; to = 0; contact = Wire }) .from; to = getD links i (record { from = 0; to = 0; contact = Wire }) .to; at = at }))) ns′ len′
-placed-more i links l ns len ns′ len′ at P small within joints ok q n t same =
-    let u = getD links i (record { from = 0; to = 0; contact = Wire }) .from in
-    let w = getD links i (record { from = 0; to = 0; contact = Wire }) .to in
+-- one link more
+pub placed-more : (i : ℕ) (links : List Link) (l : List (Option Active)) (ns : List Node) (len : ℕ) (ns′ : List Node) (len′ at : ℕ) → Placed i links l ns len → i < 64 → i < length links → Loopless links → at ≡ len → len′ ≡ len + 1 → treeAt ns′ len ≡ link i → ((k : ℕ) → k < len → treeAt ns′ k ≡ treeAt ns k) → Placed (i + 1) links (set l i (Some (record { from = getD links i bare .from; to = getD links i bare .to; at = at }))) ns′ len′
+placed-more i links l ns len ns′ len′ at P small within ok q n t same =
+    let u = getD links i bare .from in
+    let w = getD links i bare .to in
     let a : Active = record { from = u; to = w; at = at } in
     let G : Grown ns len ns′ len′ = record { more = omega arith; same = same } in
     let tree : treeAt ns′ at ≡ link i = ap (treeAt ns′) q ∙ t in
@@ -79,12 +81,12 @@ placed-more i links l ns len ns′ len′ at P small within joints ok q n t same
     record {
       edges-are = λ c e.
           edges-push ns′ l i a fits (P .rest)
-          ∙ ap₂ (λ z e. z ++ (e ∷ [])) (edges-grown ns len ns′ len′ G l (λ k a h. P .stands k a h .at) ∙ P .edges-are c e) (ap (edge-between u w) tree ∙ ap (λ (k : List Link). edge-between (getD k i (record { from = 0; to = 0; contact = Wire }) .from) (getD k i (record { from = 0; to = 0; contact = Wire }) .to) (link i)) (sym e))
+          ∙ ap₂ (λ z e. z ++ (e ∷ [])) (edges-grown ns len ns′ len′ G l (λ k a h. P .stands k a h .at) ∙ P .edges-are c e) (ap (edge-between u w) tree ∙ ap (λ (k : List Link). edge-between (getD k i bare .from) (getD k i bare .to) (link i)) (sym e))
           ∙ sym (ap (first-edges c) (add-one i));
       stands = λ k b h. elim (ℕ-discrete k i) [
         | yes p ↦
             let s : a ≡ b = some-same (sym (getD-set-same l i (Some a) None fits) ∙ sym (ap (λ m. getD (set l i (Some a)) m None) p) ∙ h) in
-            subst (λ z. Fine ns′ len′ k z) s (record { at = omega arith; low = ap (λ z. text link-text z .low) tree ∙ link-low i ∙ sym p; apart = linked-at joints links ok i within .apart })
+            subst (λ z. Fine ns′ len′ k z) s (record { at = omega arith; low = ap (λ z. text link-text z .low) tree ∙ link-low i ∙ sym p; apart = ok i within })
         | no p ↦ stands-grown ns len ns′ len′ l G (P .stands) k b (sym (getD-set-other l i k (Some a) None p) ∙ h)
       ];
       len-is = omega arith;
@@ -104,5 +106,5 @@ slice-is r = let z : r .«link_count» ≡ r .«link_count» - 0 = omega arith i
 pub slice-few : (r : Rung) → length (take (r .«link_count» - 0) (r .links)) ≤ 64
 slice-few r = let h = length-take (r .«link_count» - 0) (r .links) in let m = r .«most_links» in omega arith
 
-pub slice-linked : (r : Rung) → linked (r .joints) (take (r .«link_count» - 0) (r .links)) ≡ true
-slice-linked r = sym (ap (linked (r .joints)) (slice-is r)) ∙ r .linked
+pub slice-loopless : (r : Rung) → Loopless (take (r .«link_count» - 0) (r .links))
+slice-loopless r i h = linked-at (r .joints) (take (r .«link_count» - 0) (r .links)) (sym (ap (linked (r .joints)) (slice-is r)) ∙ r .linked) i h .apart

@@ -15,11 +15,11 @@ use Rattle.std.specs.declared.option.Option.the-variants.{Some, None}
 use Rattle.wiring.specs.Circuit.{Circuit, coil-joint}
 use Rattle.wiring.specs.Elimination.{Edge, combined, Reaches, start, more}
 use Rattle.wiring.specs.Lists.{In}
-use Rattle.wiring.specs.Text.{Text, link-text, text}
-use Rattle.wiring.proofs.Circuits.{No-more, reading, refused}
-use Rattle.wiring.proofs.Readings.{Reading}
+use Rattle.wiring.specs.Text.{link-text, text}
+use Rattle.wiring.proofs.Circuits.{No-more, keeps, reading, refused}
+use Rattle.wiring.proofs.Once.{loopless}
+use Rattle.wiring.proofs.Readings.{ends-of}
 use Rattle.wiring.proofs.Tidy.{eliminate, tidy-step}
-use Rattle.wiring.proofs.Uniqueness.{no-loop, step-keeps}
 use Rattle.elimination.specs.declared.groups.Passage.{Passage}
 use Rattle.elimination.specs.declared.slots.Active.{Active}
 use Rattle.elimination.specs.declared.slots.Side.the-variants.{Leaving}
@@ -50,6 +50,7 @@ work-start joints l ns len S = record {
   long = refl;
 }
 
+-- one joint more
 pub work-more : (joints total : ℕ) (A : List Edge) (l : List (Option Active)) (ns : List Node) (len : ℕ) (gone : List Bool) (p : Passage) (l′ : List (Option Active)) (ns′ : List Node) (len′ : ℕ) → joints ≤ 32 → Work joints total A l ns len gone → Picked joints gone l (Some p) → Eliminated (p .joint) (p .from) (p .to) l ns len l′ ns′ len′ → Work joints total A l′ ns′ len′ (set gone (p .joint) true)
 work-more joints total A l ns len gone p l′ ns′ len′ most W P D =
     let a = P .0 in let b = P .1 in let c = W .room in let d = D .room in let long = W .long in
@@ -71,15 +72,11 @@ work-more joints total A l ns len gone p l′ ns′ len′ most W P D =
     }
 
 -- an edge from a joint to itself: there is no reading
-kept-reading : (s t : ℕ) (A B : List Edge) (xs : List ℕ) (v : Text) → Reading A s t v → Reaches s t A xs B → Reading B s t v
-kept-reading s t A B xs v R start = R
-kept-reading s t A B xs v R (more {B = C} x u w D r ns nt S) = step-keeps C D s t x u w v (kept-reading s t A C _ v R r) ns nt S
-
 loop-refused : (joints : ℕ) (A B : List Edge) (xs : List ℕ) (e : Edge) → Reaches 0 (joints - 1) A xs B → In e B → e .from ≡ e .to → No-reading joints A
 loop-refused joints A B xs e r i h g j range S w R =
     let c : joints - 1 ≡ coil-joint g = ap (λ z. z - 1) (sym j) in
-    let K = kept-reading 0 (coil-joint g) A B xs (text link-text w) (reading g w A R S) (subst (λ z. Reaches 0 z A xs B) c r) in
-    no-loop (K .tree) 0 (coil-joint g) (K .runs) e (K .all e i) h
+    let K = keeps (subst (λ z. Reaches 0 z A xs B) c r) (text link-text w) (reading g w A R S) in
+    loopless ends-of (K .tree) 0 (coil-joint g) (K .runs) e (K .all e i) h
 
 pub turn-refused : (joints total : ℕ) (A : List Edge) (l : List (Option Active)) (ns : List Node) (len : ℕ) (gone : List Bool) (p : Passage) → Work joints total A l ns len gone → Picked joints gone l (Some p) → p .from ≡ p .to → No-reading joints A
 turn-refused joints total A l ns len gone p W P h =
@@ -104,6 +101,7 @@ none-left joints total A l ns len gone W P g j x u w lt n0 nc out E =
 reached-at : (joints : ℕ) (A B : List Edge) (xs : List ℕ) (g : Circuit) → g .joints ≡ joints → Reaches 0 (joints - 1) A xs B → Reaches 0 (coil-joint g) A xs B
 reached-at joints A B xs g j r = subst (λ z. Reaches 0 (z - 1) A xs B) (sym j) r
 
+-- one is left over
 pub gone-refused : (joints total : ℕ) (A : List Edge) (l : List (Option Active)) (ns : List Node) (len : ℕ) (gone : List Bool) → Work joints total A l ns len gone → Picked joints gone l None → All-gone joints gone false → No-reading joints A
 gone-refused joints total A l ns len gone W P G g j range S w R =
     let y = G .0 in let a = G .1 in let b = G .2 in
@@ -149,6 +147,7 @@ straight-all c ns (Some a ∷ l) e =
     no-such : {b : Bool} → b ≡ false → b ≡ true → ⊥
     no-such f t = let z : _≡_ {A = ℕ} 0 1 = cc in omega arith
 
+-- every inner joint is gone
 pub outcome : (joints total : ℕ) (A : List Edge) (l : List (Option Active)) (ns : List Node) (len : ℕ) (gone : List Bool) → Work joints total A l ns len gone → Picked joints gone l None → All-gone joints gone true → (r : Bool) → r ≡ straight (joints - 1) l → Outcome joints total A l ns len r
 outcome joints total A l ns len gone W P G true e = record {
   xs = W .xs;

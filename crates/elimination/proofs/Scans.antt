@@ -13,6 +13,7 @@ use Rattle.elimination.specs.declared.slots.FarEnds.the-variants.{Nothing}
 use Rattle.elimination.specs.declared.slots.Side.{Side}
 use Rattle.elimination.specs.Slots.{touch, added, neighbours, runs-straight, straight}
 
+-- the slots from one slot further down
 pub back-one : {X : Type 0} (xs : List X) (i : ℕ) (d : X) → 0 < i → i ≤ length xs → drop (i - 1) xs ≡ getD xs (i - 1) d ∷ drop i xs
 back-one xs i d p h =
     let e : i - 1 + 1 ≡ i = omega arith in

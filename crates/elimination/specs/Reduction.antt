@@ -2,12 +2,12 @@
 use mathlib.Core.Path.{_≡_}
 use mathlib.Core.Bool.{Bool, true, false}
 use mathlib.Core.List.{List, [], _∷_, map}
-use mathlib.Core.Logic.{_⊎_}
+use mathlib.Core.Logic.{_≢_, _⊎_}
 use Prim.Native.Nat.{ℕ, suc, _+_, _-_, _≤_, _<_}
 use lib.ListN.{length, getD}
 use Rattle.std.specs.declared.option.Option.{Option}
 use Rattle.std.specs.declared.option.Option.the-variants.{Some, None}
-use Rattle.wiring.specs.Circuit.{Circuit, Reads}
+use Rattle.wiring.specs.Circuit.{Circuit, bare, Reads}
 use Rattle.wiring.specs.declared.rung.Link.{Link}
 use Rattle.wiring.specs.Elimination.{Edge, Step, Reaches, Starts, In-range, first-edges}
 use Rattle.wiring.specs.Lists.{In}
@@ -48,6 +48,10 @@ abbrev pub left-of : List Bool → ℕ
 left-of [] = 0
 left-of (true ∷ l) = left-of l
 left-of (false ∷ l) = suc (left-of l)
+
+-- no link goes from a joint to itself
+abbrev pub Loopless : List Link → Type 0
+Loopless links = (i : ℕ) → i < length links → getD links i bare .from ≢ getD links i bare .to
 
 -- the first i links stand in their slots
 pub record Placed (i : ℕ) (links : List Link) (l : List (Option Active)) (ns : List Node) (len : ℕ) : Type 0 where

@@ -13,14 +13,14 @@ use crate::table::Table;
 
 /// A branch group: its position in the table, and its lowest link.
 #[derive(Clone, Copy)]
-pub struct Group {
+pub(crate) struct Group {
     pub at: u8,
     pub low: u8,
 }
 
 /// A joint that can be eliminated: all its edges in come from one joint, and all its edges out go to one.
 #[derive(Clone, Copy)]
-pub struct Passage {
+pub(crate) struct Passage {
     pub joint: u8,
     pub from: u8,
     pub to: u8,
@@ -45,7 +45,7 @@ fn extend(table: &mut Table, slot: Option<Active>, low: u8, group: Option<Group>
 }
 
 /// The group of the edges that touch the joint at that side, in the order of their lowest links.
-pub fn gather(table: &mut Table, slots: &Slots, side: Side, joint: u8) -> Option<Group>
+pub(crate) fn gather(table: &mut Table, slots: &Slots, side: Side, joint: u8) -> Option<Group>
     requires stands { ⌜ Stands (now table .nodes) (now table .len) (now slots) ⌝ }
     requires room { ⌜ now table .len + live (map (touch side joint) (now slots)) ≤ 128 ⌝ }
     ensures { λ r. ⌜ Gathered 0 (map (touch side joint) (now (slots .entry))) (now (table .entry) .nodes) (now (table .entry) .len) (now (table .exit) .nodes) (now (table .exit) .len) r ⌝ }
@@ -58,7 +58,7 @@ pub fn gather(table: &mut Table, slots: &Slots, side: Side, joint: u8) -> Option
 }
 
 /// The group into a joint in series with the group out of it.
-pub fn merge(table: &mut Table, slots: &Slots, passage: Passage) -> Group
+pub(crate) fn merge(table: &mut Table, slots: &Slots, passage: Passage) -> Group
     requires stands { ⌜ Stands (now table .nodes) (now table .len) (now slots) ⌝ }
     requires room { ⌜ now table .len + live (now slots) ≤ 128 ⌝ }
     requires may { ⌜ Eligible (edges (now table .nodes) (now slots)) (passage .joint) (passage .from) (passage .to) ⌝ }

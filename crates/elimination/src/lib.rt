@@ -1,13 +1,11 @@
 //! Recognition of series-parallel rungs by the elimination of joints.
 ghost use mathlib.Core.Path.{_≡_};
-ghost use mathlib.Core.Bool.{true};
 ghost use Prim.Native.Nat.{_≤_};
 ghost use lib.ListN.{length, replicate};
 ghost use Rattle.std.specs.declared.option.Option.the-variants.{None};
 ghost use Rattle.wiring.specs.Circuit.{circuit};
-ghost use Rattle.wiring.specs.Drawn.{linked};
 ghost use Rattle.elimination.specs.Answer.{Answer};
-ghost use Rattle.elimination.specs.Reduction.{Placed};
+ghost use Rattle.elimination.specs.Reduction.{Loopless, Placed};
 
 mod groups;
 mod reduction;
@@ -25,9 +23,9 @@ use wiring::Link;
 use wiring::Rung;
 
 /// Puts each link into its slot.
-fn place(table: &mut Table, slots: &mut Slots, links: &[Link], joints: u8)
+fn place(table: &mut Table, slots: &mut Slots, links: &[Link])
     requires most { ⌜ length (now links) ≤ 64 ⌝ }
-    requires linked { ⌜ linked joints (now links) ≡ true ⌝ }
+    requires loopless { ⌜ Loopless (now links) ⌝ }
     requires table { ⌜ now table .len ≡ 0 ⌝ }
     requires slots { ⌜ now slots ≡ replicate 64 None ⌝ }
     ensures { λ _. ⌜ Placed (length (now (links .entry))) (now (links .entry)) (now (slots .exit)) (now (table .exit) .nodes) (now (table .exit) .len) ⌝ }
@@ -49,7 +47,7 @@ pub fn decompose(rung: &Rung, table: &mut Table) -> Option<u8>
 {
     table.clear();
     let mut slots = [None; 64];
-    place(table, &mut slots, &rung.links[0..rung.link_count as usize], rung.joints);
+    place(table, &mut slots, &rung.links[0..rung.link_count as usize]);
     if !reduce(table, &mut slots, rung.joints as usize) {
         return None;
     }

@@ -85,7 +85,7 @@ fn eliminate(table: &mut Table, slots: &mut Slots, passage: Passage)
 
 /// Eliminates joints as long as one can be: true if every inner joint is gone and every edge that is left goes
 /// from joint 0 to the coil joint.
-pub fn reduce(table: &mut Table, slots: &mut Slots, joints: usize) -> bool
+pub(crate) fn reduce(table: &mut Table, slots: &mut Slots, joints: usize) -> bool
     requires two { ⌜ 2 ≤ joints ⌝ }
     requires most { ⌜ joints ≤ 32 ⌝ }
     requires stands { ⌜ Stands (now table .nodes) (now table .len) (now slots) ⌝ }

@@ -5,25 +5,25 @@ ghost use Rattle.elimination.specs.Slots.{near-of, far-of, touch, spared, adde
 
 /// An edge: the joint that it comes from, the joint that it goes to, and the position of its wiring in the table.
 #[derive(Clone, Copy)]
-pub struct Active {
+pub(crate) struct Active {
     pub from: u8,
     pub to: u8,
     pub at: u8,
 }
 
 /// For each link number the edge whose lowest link it is.
-pub type Slots = [Option<Active>; 64];
+pub(crate) type Slots = [Option<Active>; 64];
 
 /// A side of a joint: the edges that enter it, or those that leave it.
 #[derive(Clone, Copy)]
-pub enum Side {
+pub(crate) enum Side {
     Entering,
     Leaving,
 }
 
 /// The joints at the far ends of some edges.
 #[derive(Clone, Copy)]
-pub enum FarEnds {
+pub(crate) enum FarEnds {
     Nothing,
     One(u8),
     Several,
@@ -52,7 +52,7 @@ impl Active {
 }
 
 /// The slot, if its edge touches the joint at that side.
-pub fn touching(slot: Option<Active>, side: Side, joint: u8) -> Option<Active>
+pub(crate) fn touching(slot: Option<Active>, side: Side, joint: u8) -> Option<Active>
     ensures { λ r. ⌜ r ≡ touch side joint slot ⌝ }
 {
     match slot {
@@ -84,7 +84,7 @@ fn spare(slot: Option<Active>, joint: u8) -> Option<Active>
 }
 
 /// Empties the slots of the edges that touch the joint.
-pub fn clear(slots: &mut Slots, joint: u8)
+pub(crate) fn clear(slots: &mut Slots, joint: u8)
     ensures { λ _. ⌜ now (slots .exit) ≡ map (spared joint) (now (slots .entry)) ⌝ }
 {
     for i in 0..64 {
@@ -116,7 +116,7 @@ fn add(side: Side, slot: Option<Active>, ends: FarEnds) -> FarEnds
 }
 
 /// The far ends of the edges that touch the joint at that side.
-pub fn far_ends(slots: &Slots, side: Side, joint: u8) -> FarEnds
+pub(crate) fn far_ends(slots: &Slots, side: Side, joint: u8) -> FarEnds
     ensures { λ r. ⌜ r ≡ neighbours side (map (touch side joint) (now (slots .entry))) ⌝ }
 {
     let mut ends = FarEnds::Nothing;
@@ -137,7 +137,7 @@ fn goes_straight(slot: Option<Active>, coil: u8) -> bool
 }
 
 /// Whether every edge goes from joint 0 to the coil joint.
-pub fn all_straight(slots: &Slots, coil: u8) -> bool
+pub(crate) fn all_straight(slots: &Slots, coil: u8) -> bool
     ensures { λ r. ⌜ r ≡ straight coil (now (slots .entry)) ⌝ }
 {
     for i in 0..64 {

@@ -47,7 +47,8 @@ impl Table {
 
     /// Forgets the nodes.
     pub(crate) fn clear(&mut self)
-        ensures { λ _. ⌜ now (self .exit) .len ≡ 0 ⌝ }
+        ensures nodes { λ _. ⌜ now (self .exit) .nodes ≡ now (self .entry) .nodes ⌝ }
+        ensures len { λ _. ⌜ now (self .exit) .len ≡ 0 ⌝ }
     {
         self.len = 0;
     }

@@ -1,3 +1,5 @@
 pub mod Spelling
 pub mod Drafts
 pub mod Translation
+pub mod Faults
+pub mod Judgement

@@ -1,11 +1,11 @@
 -- Circuits and their readings, by active edges.
 use mathlib.Core.Path.{_≡_, refl, sym, ap, ap₂, subst, _∙_}
-use lib.ListN.{length}
 use mathlib.Core.Logic.{_⊎_, inl, inr, ⊎-elim, _≢_, _↔_}
 use mathlib.Core.List.{List, [], _∷_, _++_}
 use Prim.Native.Nat.{ℕ, zero, suc, _-_, _<_, _≤_}
 use native.Mathlib.Decide.{ℕ-discrete}
 use native.Mathlib.Omega.{arith}
+use lib.ListN.{length}
 use Rattle.wiring.specs.Lists.{In}
 use Rattle.wiring.specs.Wiring.{Wiring, link, series, parallel, leaves, Joint, Runs}
 use Rattle.wiring.specs.Text.{Text, in-series, in-parallel, link-text, text, branches, Ordered}
@@ -19,6 +19,7 @@ use Rattle.wiring.proofs.Uniqueness.{step-keeps, end-reads, run-unique, run-ex
 use Rattle.wiring.proofs.Once.{loopless, distinct-leaves}
 use Rattle.wiring.proofs.Soundness.{lows-kept, step-sound, done-built}
 
+-- the same wiring with other leaves
 abbrev rename : {L M : Type 0} → (L → M) → Wiring L → Wiring M
 rename f (link e) = link (f e)
 rename f (series a b) = series (rename f a) (rename f b)
@@ -87,6 +88,7 @@ module _ {L M : Type 0} (f : L → M) where
         let hb : Same-text b = λ x i. h x (in-right x (leaves a) (leaves b) i) in
         (rename-ordered a ha (o .0), rename-ordered b hb (o .1), λ p q i j. o .2 p q (subst (λ z. In p z) (rename-branches a ha) i) (subst (λ z. In q z) (rename-branches b hb) j))
 
+-- a link touches every joint
 abbrev pub Touched : Circuit → Type 0
 Touched g = (y : ℕ) → y < g .joints → (i : ℕ) × (i < length (g .links)) × ((ends g i .0 ≡ y) ⊎ (ends g i .1 ≡ y))
 
@@ -98,7 +100,7 @@ No-more g xs B = (x u w : ℕ) → x < g .joints → x ≢ 0 → x ≢ coil-join
 abbrev pub Unfinished : Circuit → List ℕ → List Edge → Type 0
 Unfinished g xs B = ((e : Edge) × In e B × ((e .from ≡ 0) × (e .to ≡ coil-joint g) → ⊥)) ⊎ (((y : ℕ) × (y < g .joints) × (y ≢ 0) × (y ≢ coil-joint g) × (In y xs → ⊥)) ⊎ ((e : Edge) → In e B → ⊥))
 
--- a reading of the rung is one of its links as active edges
+-- a wiring that reads the circuit is a reading of its links as active edges
 pub reading : (g : Circuit) (w : Wiring ℕ) (A : List Edge) → Reads g w → Starts g A → Reading A 0 (coil-joint g) (text link-text w)
 unfolding Same-ends Same-text
 reading g w A R S = record {
@@ -110,11 +112,13 @@ reading g w A R S = record {
   only = λ e i. let k = rename-of (edge-of g) w e i in S e .1 (k .0, R .links-are (k .0) .0 (k .1), k .2);
 }
 
+-- a circuit that is read has a run of the elimination, and every run ends with the text
 pub elimination-finds : (g : Circuit) (w : Wiring ℕ) (A : List Edge) → Reads g w → Starts g A → ((r : Wiring ℕ) × (text link-text r ≡ text link-text w) × Run 0 (coil-joint g) A r) × ((r : Wiring ℕ) → Run 0 (coil-joint g) A r → text link-text r ≡ text link-text w)
 elimination-finds g w A R S =
     let r = reading g w A R S in
     (run-exists A 0 (coil-joint g) (text link-text w) r, λ v run. sym (run-unique A 0 (coil-joint g) (text link-text w) v r run))
 
+-- the members of the first n edges are the first n links
 pub starts : (g : Circuit) (n : ℕ) (e : Edge) → In e (first-edges g n) ↔ ((i : ℕ) × (i < n) × (e ≡ edge-of g i))
 starts g zero e = (absurd, λ k. absurd (let h = k .1 in omega arith))
 starts g (suc n) e = (
@@ -153,7 +157,7 @@ rename-expand (link e) h = h e (inl refl)
 rename-expand (series a b) h = ap₂ series (rename-expand a (λ x i. h x (in-left x (leaves a) (leaves b) i))) (rename-expand b (λ x i. h x (in-right x (leaves a) (leaves b) i)))
 rename-expand (parallel a b) h = ap₂ parallel (rename-expand a (λ x i. h x (in-left x (leaves a) (leaves b) i))) (rename-expand b (λ x i. h x (in-right x (leaves a) (leaves b) i)))
 
--- what is built of the links as active edges reads the rung
+-- what is built of the links as active edges reads the circuit
 reads-of : (g : Circuit) (A : List Edge) (r : Wiring ℕ) → Touched g → Starts g A → Built A 0 (coil-joint g) r → Reads g r
 unfolding Same-ends Same-text
 reads-of g A r T S R =
@@ -180,8 +184,8 @@ reads-of g A r T S R =
       ordered = ordered;
     })
 
--- runs from their start
-keeps : {s t : ℕ} {A : List Edge} {xs : List ℕ} {B : List Edge} → Reaches s t A xs B → (v : Text) → Reading A s t v → Reading B s t v
+-- the eliminations so far keep readings and lowest links, and what is built at their end is built at their start
+pub keeps : {s t : ℕ} {A : List Edge} {xs : List ℕ} {B : List Edge} → Reaches s t A xs B → (v : Text) → Reading A s t v → Reading B s t v
 keeps start v R = R
 keeps {s} {t} (more {B = B} x u w C r xs xt S) v R = step-keeps B C s t x u w v (keeps r v R) xs xt S
 
@@ -231,6 +235,7 @@ left-over : {s t : ℕ} {A : List Edge} {xs : List ℕ} {B : List Edge} → Reac
 left-over start y j = inr j
 left-over (more {B = B} x u w C r xs xt S) y j = ⊎-elim (λ i. inl (inr i)) (λ k. ⊎-elim (λ h. inl (inl h)) inr (step-left B C x u w S y k)) (left-over r y j)
 
+-- every inner joint is eliminated and all edges run from the left rail to the coil joint: their group reads the circuit, and all that reads it has its text
 pub found : (g : Circuit) (A B G : List Edge) (xs : List ℕ) → 2 ≤ g .joints → Starts g A → Reaches 0 (coil-joint g) A xs B → Done 0 (coil-joint g) B G → ((y : ℕ) → y < g .joints → (y ≡ 0) ⊎ ((y ≡ coil-joint g) ⊎ In y xs)) → Reads g (group-tree G) × ((w : Wiring ℕ) → Reads g w → text link-text w ≡ text link-text (group-tree G))
 found g A B G xs two S r D F =
     let n : 0 ≢ coil-joint g = omega arith in
@@ -272,6 +277,7 @@ gone-by start v R y i j = i
 gone-by {s} {t} (more {B = B} x u w C r xs xt S) v R y (inl h) j = step-gone B C s t x u w v (step-keeps B C s t x u w v (keeps r v R) xs xt S) S (subst (λ z. Joint ends-of z C) h j)
 gone-by (more {B = B} x u w C r xs xt S) v R y (inr i) j = gone-by r v R y i (step-joint B C x u w S y j)
 
+-- no joint that is left can be eliminated, and something is left: no wiring reads the circuit
 pub refused : (g : Circuit) (A B : List Edge) (xs : List ℕ) → In-range g → Starts g A → Reaches 0 (coil-joint g) A xs B → No-more g xs B → Unfinished g xs B → (w : Wiring ℕ) → Reads g w → ⊥
 refused g A B xs range S r never un w Q =
     let v = text link-text w in

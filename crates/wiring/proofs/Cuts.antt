@@ -14,6 +14,7 @@ use Rattle.wiring.proofs.Readings.{ends-of, val-of, group}
 use Rattle.wiring.proofs.Groups.{ser-assoc, All, bunch}
 use Rattle.wiring.proofs.EndGroups.{tail, head}
 
+-- no edge of l touches x
 abbrev pub Clear : ℕ → List Edge → Type 0
 Clear x l = (e : Edge) → In e l → (e .from ≢ x) × (e .to ≢ x)
 
@@ -116,6 +117,7 @@ module _ {a b : List Edge} {x u w : ℕ} (c : Swap a b x u w) where
       (λ i. (j .0, old-rest (j .0) i, j .2)))
       (new-split (j .0) (j .1))
 
+-- d with one edge in the place of the joint x: it reads as d does
 pub record Cut (d : Wiring Edge) (s t x u w : ℕ) : Type 0 where
   pub tree : Wiring Edge
   pub runs : Runs ends-of tree s t
@@ -140,6 +142,7 @@ record Half (b : Wiring Edge) (m t u w : ℕ) (into : List Edge) : Type 0 where
   some-out : (e : Edge) × In e out
   clear-rest : Clear m rest
 
+-- the part behind m, where the edges into m are one group
 half : (b : Wiring Edge) (m t u w : ℕ) (into : List Edge) → Runs ends-of b m t → Ordered val-of b → ((e : Edge) → In e (leaves b) → e .from ≡ m → e .to ≡ w) → (Joint ends-of u (leaves b) → ⊥) → Half b m t u w into
 half b m t u w into r o h n =
     ⊎-elim
@@ -198,6 +201,7 @@ half b m t u w into r o h n =
     w-in : Joint ends-of w (leaves b)
     w-in = (f .0, f .1, inr (h (f .0) (f .1) (f .2)))
 
+-- x is the middle joint of a series
 middle : (a b : Wiring Edge) (s t m u w : ℕ) → Runs ends-of a s m → Runs ends-of b m t → ((y : ℕ) → Joint ends-of y (leaves a) → Joint ends-of y (leaves b) → y ≡ m) → Ordered val-of a → Ordered val-of b → ((e : Edge) → In e (leaves a) → e .to ≡ m → e .from ≡ u) → ((e : Edge) → In e (leaves b) → e .from ≡ m → e .to ≡ w) → Cut (series a b) s t m u w
 middle a b s t m u w ra rb sh oa ob hi ho =
     ⊎-elim
@@ -286,6 +290,7 @@ middle a b s t m u w ra rb sh oa ob hi ho =
     new-of : {e₀ : Edge} {rest : List Edge} (d : Wiring Edge) → leaves d ≡ e₀ ∷ rest → (e : Edge) → In e (leaves d) → (e ≡ e₀) ⊎ In e rest
     new-of {e₀} {rest} d p e i = subst (λ z. In e z) p i
 
+-- every wiring that the joint x is inner to
 pub cut : (d : Wiring Edge) (s t x u w : ℕ) → Runs ends-of d s t → Ordered val-of d → ((e : Edge) → In e (leaves d) → e .to ≡ x → e .from ≡ u) → ((e : Edge) → In e (leaves d) → e .from ≡ x → e .to ≡ w) → x ≢ s → x ≢ t → Joint ends-of x (leaves d) → Cut d s t x u w
 cut (link e) s t x u w r o hi ho xs xt j =
     ⊎-elim (λ p. absurd (⊎-elim (λ q. xs (sym q ∙ ap (λ z. z .from) p ∙ r .0)) (λ q. xt (sym q ∙ ap (λ z. z .to) p ∙ r .1)) (j .2))) absurd (j .1)

@@ -12,6 +12,7 @@ use Rattle.wiring.proofs.Joints.{joint-left, joint-right, first-link, last-lin
 use Rattle.wiring.proofs.Readings.{ends-of, val-of, group}
 use Rattle.wiring.proofs.Groups.{ser-assoc, All, bunch}
 
+-- d is `before`, and then the group of edges `last` from u to m
 pub record Tail (d : Wiring Edge) (s m u : ℕ) : Type 0 where
   pub before : Wiring Edge
   pub last : List Edge
@@ -22,6 +23,7 @@ pub record Tail (d : Wiring Edge) (s m u : ℕ) : Type 0 where
   pub rises : Rising last
   pub goes : All last u m
 
+-- d is that, or is itself a group of edges from s to m
 pub tail : (d : Wiring Edge) (s m u : ℕ) → Runs ends-of d s m → Ordered val-of d → ((e : Edge) → In e (leaves d) → e .to ≡ m → e .from ≡ u) → ((u ≡ s) × All (leaves d) s m) ⊎ Tail d s m u
 tail (link e) s m u r o h = inl (sym (h e (inl refl) (r .1)) ∙ r .0, λ x. elim [ inl p ↦ (ap (λ z. z .from) p ∙ r .0, ap (λ z. z .to) p ∙ r .1) | inr i ↦ absurd i ])
 tail (series a b) s m u r o h =
@@ -75,6 +77,7 @@ pub record Head (d : Wiring Edge) (m t w : ℕ) : Type 0 where
   pub rises : Rising start
   pub goes : All start m w
 
+-- d is that, or is itself a group of edges from m to t
 pub head : (d : Wiring Edge) (m t w : ℕ) → Runs ends-of d m t → Ordered val-of d → ((e : Edge) → In e (leaves d) → e .from ≡ m → e .to ≡ w) → ((w ≡ t) × All (leaves d) m t) ⊎ Head d m t w
 head (link e) m t w r o h = inl (sym (h e (inl refl) (r .0)) ∙ r .1, λ x. elim [ inl p ↦ (ap (λ z. z .from) p ∙ r .0, ap (λ z. z .to) p ∙ r .1) | inr i ↦ absurd i ])
 head (series a b) m t w r o h =

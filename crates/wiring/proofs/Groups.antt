@@ -12,6 +12,7 @@ use Rattle.wiring.proofs.Members.{in-left, in-right, in-split}
 use Rattle.wiring.proofs.Joints.{first-link, last-link, apart}
 use Rattle.wiring.proofs.Readings.{ends-of, val-of, group}
 
+-- how texts in series, and in parallel, are grouped does not matter
 pub ser-assoc : (a b c : Text) → in-series (in-series a b) c ≡ in-series a (in-series b c)
 unfolding in-series
 ser-assoc a b c =
@@ -32,11 +33,13 @@ joined-++ : (v : Wiring ℕ) (l : List Edge) (f : Edge) (k : List Edge) → text
 joined-++ v [] f k = refl
 joined-++ v (g ∷ l) f k = ap (in-parallel (text link-text v)) (joined-++ (g .tree) l f k) ∙ sym (par-assoc (text link-text v) (text link-text (joined (g .tree) l)) (text link-text (joined (f .tree) k)))
 
+-- the group of two lists of edges
 pub group-++ : (l k : List Edge) (e f : Edge) → In e l → In f k → group (l ++ k) ≡ in-parallel (group l) (group k)
 group-++ [] k e f i j = absurd i
 group-++ (x ∷ l) [] e f i j = absurd j
 group-++ (x ∷ l) (y ∷ k) e f i j = joined-++ (x .tree) l y k
 
+-- rising lists with the same members are the same
 pub rising-same : (l k : List Edge) → Rising l → Rising k → ((e : Edge) → In e l → In e k) → ((e : Edge) → In e k → In e l) → l ≡ k
 rising-same [] [] a b f g = refl
 rising-same [] (y ∷ k) a b f g = absurd (g y (inl refl))
@@ -51,15 +54,17 @@ pub rising-++ : (l k : List Edge) → Rising l → Rising k → ((e f : Edge) �
 rising-++ [] k a b h = b
 rising-++ (x ∷ l) k a b h = (λ f i. ⊎-elim (a .0 f) (h x f (inl refl)) (in-split f l k i), rising-++ l k (a .1) b (λ e f i j. h e f (inr i) j))
 
--- a wiring all of whose edges go from s to t is a group of them
+-- all edges go from s to t
 abbrev pub All : List Edge → ℕ → ℕ → Type 0
 All l s t = (e : Edge) → In e l → (e .from ≡ s) × (e .to ≡ t)
 
+-- the wiring is the group of its edges
 pub record Bunch (w : Wiring Edge) : Type 0 where
   pub reads : text val-of w ≡ group (leaves w)
   pub rises : Rising (leaves w)
   pub lows : (e : Edge) → In e (leaves w) → In (low-of e) (branches val-of w)
 
+-- a wiring all of whose edges go from s to t is
 pub bunch : (w : Wiring Edge) (s t : ℕ) → Runs ends-of w s t → Ordered val-of w → All (leaves w) s t → Bunch w
 bunch (link e) s t r o all = record { reads = refl; rises = ((λ f i. absurd i), tt); lows = λ f. elim [ inl h ↦ inl (ap (λ z. low-of z) h) | inr i ↦ absurd i ] }
 bunch (series a b) s t r o all =

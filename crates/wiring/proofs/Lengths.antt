@@ -1,43 +1,18 @@
 -- How many leaves a wiring that reads a circuit has, and how long its text can be.
-use mathlib.Core.Path.{_≡_, refl, sym, ap, subst, _∙_}
+use mathlib.Core.Path.{_≡_, refl, subst}
 use mathlib.Core.Logic.{_⊎_, inl, inr, ⊎-elim, _≢_}
 use mathlib.Core.List.{List, [], _∷_, _++_}
 use Prim.Native.Nat.{ℕ, zero, suc, _+_, _*_, _≤_, _<_}
 use native.Mathlib.Decide.{ℕ-discrete}
 use native.Mathlib.Omega.{arith}
 use lib.ListN.{length, length-append}
-use Rattle.wiring.specs.Circuit.{Circuit, Reads}
+use Rattle.wiring.specs.Circuit.{Circuit, circuit, Reads}
+use Rattle.wiring.specs.declared.rung.Rung.{Rung}
 use Rattle.wiring.specs.Lists.{In, Distinct}
 use Rattle.wiring.specs.Text.{Text, close, in-series, in-parallel, link-text, text}
 use Rattle.wiring.specs.Wiring.{Wiring, link, series, parallel, leaves}
-use Rattle.wiring.proofs.Members.{in-left, in-right, in-split, distinct-join, distinct-left, distinct-right, distinct-apart}
-
--- l is a, then x, then b
-record Around (x : ℕ) (l : List ℕ) : Type 0 where
-  a : List ℕ
-  b : List ℕ
-  whole : l ≡ a ++ (x ∷ b)
-
-around : (x : ℕ) (l : List ℕ) → In x l → Around x l
-around x [] i = absurd i
-around x (y ∷ l) (inl h) = record { a = []; b = l; whole = ap (λ z. z ∷ l) (sym h) }
-around x (y ∷ l) (inr i) = let r = around x l i in record { a = y ∷ r .a; b = r .b; whole = ap (λ z. y ∷ z) (r .whole) }
-
-one-less : (x : ℕ) (l : List ℕ) (r : Around x l) → length l ≡ suc (length (r .a ++ r .b))
-one-less x l r =
-    let p : length l ≡ length (r .a) + length (x ∷ r .b) = ap length (r .whole) ∙ length-append (r .a) (x ∷ r .b) in
-    let q = length-append (r .a) (r .b) in
-    omega arith
-
-without : (x : ℕ) (l : List ℕ) (r : Around x l) (y : ℕ) → In y l → y ≢ x → In y (r .a ++ r .b)
-without x l r y i n =
-    ⊎-elim (in-left y (r .a) (r .b)) (⊎-elim (λ h. absurd (n h)) (in-right y (r .a) (r .b)))
-    (in-split y (r .a) (x ∷ r .b) (subst (λ z. In y z) (r .whole) i))
-
-within : (x : ℕ) (l : List ℕ) (r : Around x l) (y : ℕ) → In y (r .a ++ r .b) → In y l
-within x l r y i =
-    subst (λ z. In y z) (sym (r .whole))
-    (⊎-elim (in-left y (r .a) (x ∷ r .b)) (λ j. in-right y (r .a) (x ∷ r .b) (inr j)) (in-split y (r .a) (r .b) i))
+use Rattle.wiring.proofs.Drawing.{links-few}
+use Rattle.wiring.proofs.Members.{around, one-less, without, within, still-distinct, others}
 
 -- where each number below n stands in the list, it has n members at least
 covers : (n : ℕ) (l : List ℕ) → ((i : ℕ) → i < n → In i l) → n ≤ length l
@@ -60,15 +35,7 @@ fits-below (suc n) l d h =
     ⊎-elim
     (λ m.
     let r = around n l m in
-    let e : Distinct (r .a ++ (n ∷ r .b)) = subst (λ z. Distinct z) (r .whole) d in
-    let apart : (y : ℕ) → In y (r .a) → In y (n ∷ r .b) → ⊥ = distinct-apart (r .a) (n ∷ r .b) e in
-    let after = distinct-right (r .a) (n ∷ r .b) e in
-    let p = fits-below n (r .a ++ r .b)
-    (distinct-join (r .a) (r .b) (distinct-left (r .a) (n ∷ r .b) e) (after .1) (λ y i j. apart y i (inr j)))
-    (λ i j.
-    let ne : i ≢ n = λ q. ⊎-elim (λ k. apart i k (inl q)) (λ k. after .0 (subst (λ z. In z (r .b)) q k)) (in-split i (r .a) (r .b) j) in
-    let lt = h i (within n l r i j) in
-    omega arith) in
+    let p = fits-below n (r .a ++ r .b) (still-distinct n l r d) (λ i j. let lt = h i (within n l r i j) in let ne = others n l r d i j in omega arith) in
     let q = one-less n l r in
     omega arith)
     (λ m.
@@ -89,6 +56,7 @@ pub record Short (t : Text) (n : ℕ) : Type 0 where
   pub later-and : length (t .later-and) + 2 ≤ 3 * n
   pub later-or : length (t .later-or) + 2 ≤ 3 * n
 
+-- the text of every wiring is as short as that
 pub text-short : (w : Wiring ℕ) → Short (text link-text w) (length (leaves w))
 unfolding link-text in-series in-parallel
 text-short (link i) = record { first = omega arith; later-and = omega arith; later-or = omega arith }
@@ -112,3 +80,11 @@ text-short (parallel a b) =
     let g = length-append (A .later-or) (B .later-or) in
     let h = length-append (A .first ++ B .later-or) (close ∷ []) in
     record { first = omega arith; later-and = omega arith; later-or = omega arith }
+
+-- so the text of a drawn rung has 190 words at most
+pub drawn-short : (r : Rung) (w : Wiring ℕ) → Reads (circuit r) w → length (text link-text w .first) ≤ 190
+drawn-short r w R =
+    let s = text-short w .first in
+    let n = leaf-count (circuit r) w R in
+    let m = links-few r in
+    omega arith

@@ -14,3 +14,4 @@ pub mod Values
 pub mod Lengths
 pub mod Worked
 pub mod Drawing
+pub mod Rules

@@ -10,6 +10,7 @@ use Rattle.wiring.proofs.Members.{in-left, in-right, in-split, distinct-join}
 use Rattle.wiring.proofs.Joints.{joint-first, joint-last, apart, none-into, none-from}
 
 module _ {L : Type 0} (ends : L → ℕ × ℕ) where
+  -- no link of a wiring goes from a joint to itself
   pub loopless : (d : Wiring L) (s t : ℕ) → Runs ends d s t → (e : L) → In e (leaves d) → ends e .0 ≢ ends e .1
   loopless (link e) s t r x (inl p) = λ q. r .2 (sym (r .0) ∙ ap (λ z. ends z .0) (sym p) ∙ q ∙ ap (λ z. ends z .1) p ∙ r .1)
   loopless (link e) s t r x (inr i) = absurd i

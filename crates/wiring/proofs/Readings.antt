@@ -8,16 +8,19 @@ use Rattle.wiring.specs.Wiring.{Wiring, link, series, parallel, leaves, Runs}
 use Rattle.wiring.specs.Text.{Text, link-text, text, Ordered}
 use Rattle.wiring.specs.Elimination.{Edge, low-of, Rising, group-tree, Step}
 
+-- the two ends of an edge
 abbrev pub ends-of : Edge → ℕ × ℕ
 ends-of e = (e .from, e .to)
 
+-- the text that it stands for
 abbrev pub val-of : Edge → Text
 val-of e = text link-text (e .tree)
 
+-- the text of the group of edges
 abbrev pub group : List Edge → Text
 group l = text link-text (group-tree l)
 
--- no inner joint is left
+-- no inner joint is left: all edges A go from s to t, and G is A in rising order
 pub record Done (s t : ℕ) (A G : List Edge) : Type 0 where
   pub some : (e : Edge) × In e A
   pub all : (e : Edge) → In e A → (e .from ≡ s) × (e .to ≡ t)

@@ -14,6 +14,7 @@ use Rattle.wiring.proofs.Readings.{ends-of, val-of, group, Done, Lows-apart, e
 use Rattle.wiring.proofs.Groups.{All}
 use Rattle.wiring.proofs.Once.{loopless, once-series, once-parallel}
 
+-- the wiring of a group of edges
 abbrev chain : Edge → List Edge → Wiring Edge
 chain e [] = link e
 chain e (f ∷ l) = parallel (link e) (chain f l)
@@ -55,6 +56,7 @@ chain-runs e [] u x n a = (a e (inl refl) .0, a e (inl refl) .1, n)
 chain-runs e (f ∷ l) u x n a =
     ((a e (inl refl) .0, a e (inl refl) .1, n), chain-runs f l u x n (λ g i. a g (inr i)), λ y j k. joint-all y u x (e ∷ []) (λ g i. a g (⊎-elim inl absurd i)) j)
 
+-- the edges G as a wiring from u to x
 record Group (G : List Edge) (u x : ℕ) : Type 0 where
   tree : Wiring Edge
   all : leaves tree ≡ G
@@ -219,6 +221,7 @@ stays-apart A B x u w la S e i p q h =
     let same : e ≡ f .0 = la e (f .0) i (f .1) (h ∙ f .3) in
     ⊎-elim (λ g. p (ap (λ z. z .from) same ∙ g)) (λ g. q (ap (λ z. z .to) same ∙ g)) (f .2)
 
+-- a step keeps the lowest links apart
 pub lows-kept : (A B : List Edge) (x u w : ℕ) → Lows-apart A → Step A x u w B → Lows-apart B
 lows-kept A B x u w la S e f i j h =
     ⊎-elim
@@ -226,6 +229,7 @@ lows-kept A B x u w la S e f i j h =
     (λ p. ⊎-elim (λ q. absurd (stays-apart A B x u w la S e (p .0) (p .1) (p .2) (h ∙ ap (λ z. low-of z) q))) (λ q. la e f (p .0) (q .0) h) (S .left f .0 j))
     (S .left e .0 i)
 
+-- what is built of the edges that a step leaves is built of those that it started from
 pub step-sound : (A B : List Edge) (s t x u w : ℕ) (r : Wiring ℕ) → Lows-apart A → Step A x u w B → Built B s t r → Built A s t r
 unfolding Apart
 step-sound A B s t x u w r la S R =
@@ -279,6 +283,7 @@ step-sound A B s t x u w r la S R =
               (G .only e i);
         }
 
+-- the group of edges that all run from s to t is built of them
 pub done-built : (s t : ℕ) (A G : List Edge) → s ≢ t → Done s t A G → Built A s t (group-tree G)
 done-built s t A G n D =
     let e = D .some in
@@ -291,4 +296,3 @@ done-built s t A G n D =
       all = λ f i. subst (λ z. In f z) (sym (g .all)) (D .are f .1 i);
       only = λ f i. D .are f .0 (subst (λ z. In f z) (g .all) i);
     }
-

@@ -1,12 +1,12 @@
 -- The elimination on edges in rising order makes the steps of the relation.
 use mathlib.Core.Path.{_≡_, refl, sym, ap, ap₂, subst, _∙_}
-use lib.ListN.{length}
 use mathlib.Core.Logic.{_⊎_, inl, inr, ⊎-elim, _≢_}
 use mathlib.Core.Bool.{Bool, true, false, cond, not, _||_}
 use mathlib.Core.List.{List, [], _∷_, _++_}
 use Prim.Native.Nat.{ℕ, zero, suc, _<_}
 use native.Mathlib.Omega.{arith}
 use lib.Dec.{T, eqb, ltb, ltb→lt, nltb→le}
+use lib.ListN.{length}
 use Rattle.std.proofs.shelf.Ways.{eqb-tells}
 use Rattle.wiring.specs.Lists.{In}
 use Rattle.wiring.specs.Circuit.{Circuit}
@@ -16,10 +16,12 @@ use Rattle.wiring.proofs.Groups.{rising-++}
 use Rattle.wiring.proofs.Soundness.{stays-apart}
 use Rattle.wiring.proofs.Circuits.{starts, link-low}
 
+-- the members that pass a test
 abbrev pub sift : (Edge → Bool) → List Edge → List Edge
 sift p [] = []
 sift p (e ∷ l) = cond (p e) (e ∷ sift p l) (sift p l)
 
+-- the edges into x, out of x, and neither
 abbrev pub into-of : ℕ → List Edge → List Edge
 into-of x A = sift (λ e. eqb (e .to) x) A
 
@@ -29,10 +31,12 @@ out-of x A = sift (λ e. eqb (e .from) x) A
 abbrev pub rest-of : ℕ → List Edge → List Edge
 rest-of x A = sift (λ e. not (eqb (e .from) x || eqb (e .to) x)) A
 
+-- put an edge at the place of its lowest link
 abbrev pub insert : Edge → List Edge → List Edge
 insert c [] = c ∷ []
 insert c (e ∷ l) = cond (ltb (low-of c) (low-of e)) (c ∷ (e ∷ l)) (e ∷ insert c l)
 
+-- one edge in the place of the joint x
 abbrev pub eliminate : ℕ → ℕ → ℕ → List Edge → List Edge
 eliminate x u w A = insert (combined u w (into-of x A) (out-of x A)) (rest-of x A)
 
@@ -175,4 +179,3 @@ tidy-start g = (first-rise g (length (g .links)), starts g (length (g .links)))
 
 pub tidy-end : (A : List Edge) (s t : ℕ) (e : Edge) → Rising A → In e A → ((f : Edge) → In f A → (f .from ≡ s) × (f .to ≡ t)) → Done s t A A
 tidy-end A s t e r i a = record { some = (e, i); all = a; rises = r; are = λ f. ((λ j. j), λ j. j) }
-

@@ -13,13 +13,8 @@ use Rattle.wiring.proofs.Members.{in-left, in-right, in-split}
 use Rattle.wiring.proofs.Joints.{first-link, last-link, joint-first, joint-last, apart, none-into, none-from}
 use Rattle.wiring.proofs.Readings.{ends-of, group, Done, Run, done, step, Reading}
 use Rattle.wiring.proofs.Groups.{rising-same, All, bunch}
+use Rattle.wiring.proofs.Once.{loopless}
 use Rattle.wiring.proofs.Cuts.{Swap, old-front, old-into, old-out, old-rest, old-split, new-split, new-in, Cut, cut}
-
-pub no-loop : (d : Wiring Edge) (s t : ℕ) → Runs ends-of d s t → (e : Edge) → In e (leaves d) → e .from ≢ e .to
-no-loop (link e) s t r x (inl p) = λ q. r .2 (sym (r .0) ∙ ap (λ z. z .from) (sym p) ∙ q ∙ ap (λ z. z .to) p ∙ r .1)
-no-loop (link e) s t r x (inr i) = absurd i
-no-loop (series a b) s t r x i = ⊎-elim (no-loop a s (r .0) (r .1) x) (no-loop b (r .0) t (r .2) x) (in-split x (leaves a) (leaves b) i)
-no-loop (parallel a b) s t r x i = ⊎-elim (no-loop a s t (r .0) x) (no-loop b s t (r .1) x) (in-split x (leaves a) (leaves b) i)
 
 -- the groups that a cut finds are all the edges at x
 module _ {a b : List Edge} {x u w : ℕ} (c : Swap a b x u w) (loops : (e : Edge) → In e a → e .from ≢ e .to) (may : Eligible a x u w) where
@@ -54,11 +49,12 @@ cut-of A s t x u w v R xs xt m =
     let e = m .some-in in
     cut (R .tree) s t x u w (R .runs) (R .ordered) (λ e i. m .from-u e (R .only e i)) (λ e i. m .to-w e (R .only e i)) xs xt (e .0, R .all (e .0) (e .1), inr (e .2))
 
+-- a step keeps the reading
 pub step-keeps : (A B : List Edge) (s t x u w : ℕ) (v : Text) → Reading A s t v → x ≢ s → x ≢ t → Step A x u w B → Reading B s t v
 step-keeps A B s t x u w v R xs xt S =
     let c = cut-of A s t x u w v R xs xt (S .may) in
     let k = c .swap in
-    let loops = no-loop (R .tree) s t (R .runs) in
+    let loops = loopless ends-of (R .tree) s t (R .runs) in
     let m = eligible-moves A (leaves (R .tree)) x u w (R .all) (R .only) (S .may) in
     let same-into : k .into ≡ S .into =
     rising-same (k .into) (S .into) (k .into-rises) (S .into-rises)
@@ -81,6 +77,7 @@ step-keeps A B s t x u w v R xs xt S =
           (new-split k e i));
     }
 
+-- where the elimination ends, the group of the edges has the text
 pub end-reads : (A G : List Edge) (s t : ℕ) (v : Text) → Reading A s t v → Done s t A G → v ≡ group G
 end-reads A G s t v R D =
     let b = bunch (R .tree) s t (R .runs) (R .ordered) (λ e i. D .all e (R .only e i)) in
@@ -94,7 +91,7 @@ unique {s} {t} (step {A = A} x u w B xs xt S run) v R = unique run v (step-keeps
 pub run-unique : (A : List Edge) (s t : ℕ) (v : Text) (r : Wiring ℕ) → Reading A s t v → Run s t A r → v ≡ text link-text r
 run-unique A s t v r R run = unique run v R
 
--- progress
+-- a wiring with an inner joint has one that can be eliminated
 widen-left : (l k : List Edge) (x u w : ℕ) → (Joint ends-of x k → ⊥) → Eligible l x u w → Eligible (l ++ k) x u w
 widen-left l k x u w n m = record {
   some-in = (m .some-in .0, in-left (m .some-in .0) l k (m .some-in .1), m .some-in .2);
@@ -204,7 +201,7 @@ run-by (suc n) A s t v R h =
     let m = eligible-moves (leaves (R .tree)) A x u w (R .only) (R .all) (q .5) in
     let c = cut-of A s t x u w v R (q .3) (q .4) m in
     let k = c .swap in
-    let loops = no-loop (R .tree) s t (R .runs) in
+    let loops = loopless ends-of (R .tree) s t (R .runs) in
     let next = run-by n (leaves (c .tree)) s t v
     (record { tree = c .tree; runs = c .runs; ordered = c .ordered; reads = c .reads ∙ R .reads; all = λ e i. i; only = λ e i. i })
     (let g = fewer k in omega arith) in (

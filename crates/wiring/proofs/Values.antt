@@ -4,9 +4,13 @@ use mathlib.Core.Logic.{_⊎_, inl, inr, ⊎-elim, _↔_}
 use mathlib.Core.List.{List, [], _∷_, _++_}
 use Prim.Native.Nat.{ℕ}
 use Rattle.signals.specs.Kind.{Kind, Laws}
-use Rattle.wiring.specs.Lists.{In}
+use Rattle.wiring.specs.Circuit.{Circuit, Reads}
+use Rattle.wiring.specs.Lists.{In, Distinct}
+use Rattle.wiring.specs.Paths.{All-paths}
 use Rattle.wiring.specs.Value.{value, along, over-all, Two-signals}
 use Rattle.wiring.specs.Wiring.{Wiring, link, series, parallel, each, every, paths}
+use Rattle.wiring.proofs.Members.{around, without, within, still-distinct, others}
+use Rattle.wiring.proofs.Paths.{paths-stand}
 
 -- a list with a first member
 abbrev Some : {A : Type 0} → List A → Type 0
@@ -59,8 +63,29 @@ module _ {S L : Type 0} (k : Kind S) (laws : Laws k) (v : L → S) where
       ∙ ap (over-all k v) (sym (ap₂ every (p .2) (q .2)))
   value-of-paths (parallel a b) = ap₂ (k .parallel) (value-of-paths a) (value-of-paths b) ∙ sym (all-++ (paths a) (paths b))
 
+  -- the joining over paths does not depend on their order
+  taken-out : (a : List (List L)) (p : List L) (b : List (List L)) → over-all k v (a ++ (p ∷ b)) ≡ k .parallel (along k v p) (over-all k v (a ++ b))
+  taken-out [] p b = refl
+  taken-out (q ∷ a) p b =
+      ap (k .parallel (along k v q)) (taken-out a p b)
+      ∙ sym (laws .parallel-assoc (along k v q) (along k v p) (over-all k v (a ++ b)))
+      ∙ ap (λ x. k .parallel x (over-all k v (a ++ b))) (laws .parallel-comm (along k v q) (along k v p))
+      ∙ laws .parallel-assoc (along k v p) (along k v q) (over-all k v (a ++ b))
+
+  same-joining : (ps qs : List (List L)) → Distinct ps → Distinct qs → ((p : List L) → In p ps → In p qs) → ((p : List L) → In p qs → In p ps) → over-all k v ps ≡ over-all k v qs
+  same-joining [] [] d e f g = refl
+  same-joining [] (q ∷ qs) d e f g = absurd (g q (inl refl))
+  same-joining (p ∷ ps) qs d e f g =
+      let r = around p qs (f p (inl refl)) in
+      ap (k .parallel (along k v p))
+      (same-joining ps (r .a ++ r .b) (d .1) (still-distinct p qs r e)
+      (λ x i. without p qs r x (f x (inr i)) (λ h. d .0 (subst (λ z. In z ps) h i)))
+      (λ x i. ⊎-elim (λ h. absurd (others p qs r e x i h)) (λ j. j) (g x (within p qs r x i))))
+      ∙ sym (taken-out (r .a) p (r .b))
+      ∙ ap (over-all k v) (sym (r .whole))
+
   module _ (two : Two-signals k) where
-    -- on and off differ, so off in series with anything is off
+    -- off in series with anything is off
     off-off : k .series (k .off) (k .off) ≡ k .off
     off-off =
         sym (off-right (k .series (k .off) (k .off)))
@@ -106,3 +131,10 @@ module _ {S L : Type 0} (k : Kind S) (laws : Laws k) (v : L → S) where
 
     pub on-by-a-path : (ps : List (List L)) → (over-all k v ps ≡ k .on) ↔ ((p : List L) × In p ps × ((e : L) → In e p → v e ≡ k .on))
     on-by-a-path ps = (on-all ps, λ r. all-on ps (r .0) (r .1) (r .2))
+
+pub one-joining : {S : Type 0} (k : Kind S) → Laws k → (v : ℕ → S) (c : Circuit) (ps qs : List (List ℕ)) → All-paths c ps → All-paths c qs → over-all k v ps ≡ over-all k v qs
+one-joining k laws v c ps qs P Q = same-joining k laws v ps qs (P .once) (Q .once) (λ p i. Q .are p .1 (P .are p .0 i)) (λ p i. P .are p .1 (Q .are p .0 i))
+
+-- so a wiring that reads a circuit passes on the joining over all its paths, however they are listed
+pub value-over-all : {S : Type 0} (k : Kind S) → Laws k → (v : ℕ → S) (c : Circuit) (w : Wiring ℕ) (ps : List (List ℕ)) → Reads c w → All-paths c ps → value k v w ≡ over-all k v ps
+value-over-all k laws v c w ps R P = value-of-paths k laws v w ∙ one-joining k laws v c (paths w) ps (paths-stand c w R) P

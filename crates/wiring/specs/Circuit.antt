@@ -26,9 +26,13 @@ circuit r = record { joints = r .joints; links = take (r .«link_count») (r .li
 abbrev pub coil-joint : Circuit → ℕ
 coil-joint c = c .joints - 1
 
--- link number i (past the last number: a wire that joins nothing)
+-- a wire that joins nothing
+abbrev pub bare : Link
+bare = record { from = 0; to = 0; contact = Wire }
+
+-- link number i; past the last number it is bare
 abbrev pub link-at : Circuit → ℕ → Link
-link-at c i = getD (c .links) i (record { from = 0; to = 0; contact = Wire })
+link-at c i = getD (c .links) i bare
 
 -- the joint that link number i comes from, and the joint that it goes to
 abbrev pub ends : Circuit → ℕ → ℕ × ℕ

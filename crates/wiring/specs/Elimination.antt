@@ -1,4 +1,4 @@
--- The elimination of joints: this file serves the recognition's own contracts, and a reader of the theorems need not believe it.
+-- The elimination of joints: this file serves the recognition's own contracts, and is not part of what a reader must believe.
 use mathlib.Core.Path.{_≡_}
 use mathlib.Core.Logic.{_⊎_, _≢_, _↔_}
 use mathlib.Core.List.{List, [], _∷_, _++_}

@@ -24,6 +24,10 @@ Paths-stand = (c : Circuit) (w : Wiring ℕ) → Reads c w → All-paths c (path
 abbrev pub Value-stands : Type 0 → Type 0
 Value-stands S = (k : Kind S) → Laws k → (v : ℕ → S) (w : Wiring ℕ) → value k v w ≡ over-all k v (paths w)
 
+-- and the joining over all paths of a circuit is the same however they are listed
+abbrev pub One-joining : Type 0 → Type 0
+One-joining S = (k : Kind S) → Laws k → (v : ℕ → S) (c : Circuit) (ps qs : List (List ℕ)) → All-paths c ps → All-paths c qs → over-all k v ps ≡ over-all k v qs
+
 -- with two signals that joining is on exactly if some path has every link on
 abbrev pub On-by-a-path : Type 0 → Type 0
 On-by-a-path S =

@@ -30,6 +30,7 @@ detour = record {
 abbrev pub detour-wiring : Wiring ℕ
 detour-wiring = series (link 0) (parallel (link 1) (series (link 2) (link 3)))
 
+-- its text
 abbrev pub detour-text : List Word
 detour-text = LD 0 ∷ (AND-open ∷ (LD 1 ∷ (OR-open ∷ (LD 2 ∷ (AND 3 ∷ (close ∷ (close ∷ [])))))))
 

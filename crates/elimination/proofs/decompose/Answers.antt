@@ -4,11 +4,11 @@ use lib.ListN.{length}
 use Rattle.wiring.specs.Circuit.{circuit}
 use Rattle.elimination.proofs.Answering.{answer-found, answer-none, answer-refused, range-drawn}
 use Rattle.elimination.proofs.Edges.{live-parts}
-use Rattle.elimination.proofs.Placing.{placed-all, slice-is, slice-few, slice-linked}
+use Rattle.elimination.proofs.Placing.{placed-all, slice-is, slice-few, slice-loopless}
 use Rattle.elimination.proofs.decompose.Needs as need
 
 pub place-requires : need.place-requires
-place-requires c κs = record { most = slice-few (c .args .rung .now); linked = slice-linked (c .args .rung .now); table = c .clear .ensures; slots = refl }
+place-requires c κs = record { most = slice-few (c .args .rung .now); loopless = slice-loopless (c .args .rung .now); table = c .clear .ensures .len; slots = refl }
 
 pub reduce-requires : need.reduce-requires
 reduce-requires c κs =

@@ -39,7 +39,7 @@ push-at-requires c κs =
     let a = a-group 0 _ _ _ (c .in-Some .into) (c .in-Some .ensures tt .group) .at in
     let b = a-group 0 _ _ _ (c .in-Some-gather .out) (c .in-Some-gather .ensures tt .group) .at in
     let m = c .gather-2 .ensures .grown .more in
-    record { room = omega arith; falls = (omega arith, b) }
+    record { room = omega arith; falls = (omega arith, omega arith) }
 
 pub returns : need.returns
 returns c =

@@ -1,5 +1,5 @@
-use Rattle.wiring.proofs.Values.{value-of-paths}
+use Rattle.wiring.proofs.Values.{value-of-paths, one-joining}
 use Rattle.wiring.proofs.theorems.value_stands.Needs as need
 
 pub returns : need.returns
-returns g c = value-of-paths
+returns g c = record { value = value-of-paths; joining = one-joining }
