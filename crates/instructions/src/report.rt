@@ -24,7 +24,10 @@ impl ShortBuffer {
 }
 
 /// Writes `OK` and the four numbers of a program: rungs, words, greatest depth, first rung with that depth.
-pub fn write_status(counts: (usize, usize, usize, usize), buffer: &mut [u8]) -> Result<usize, ShortBuffer>
+pub fn write_status(
+    counts: (usize, usize, usize, usize),
+    buffer: &mut [u8],
+) -> Result<usize, ShortBuffer>
     ensures { λ r. ⌜ Written (statusLine counts) (now (buffer .entry)) r (now (buffer .exit)) ⌝ }
 {
     let (rungs, words, depth, first) = counts;
@@ -32,7 +35,12 @@ pub fn write_status(counts: (usize, usize, usize, usize), buffer: &mut [u8]) -> 
 }
 
 /// Writes `NO`, the number of a refusal, the rung (or line) and the bit (or byte).
-pub fn write_refusal(number: u8, rung: usize, place: usize, buffer: &mut [u8]) -> Result<usize, ShortBuffer>
+pub fn write_refusal(
+    number: u8,
+    rung: usize,
+    place: usize,
+    buffer: &mut [u8],
+) -> Result<usize, ShortBuffer>
     ensures { λ r. ⌜ Written (refusalLine number rung place) (now (buffer .entry)) r (now (buffer .exit)) ⌝ }
 {
     write_record(b"NO", &[number as usize, rung, place], buffer)

@@ -29,7 +29,10 @@ impl Survey {
         if self.open > 0 {
             return self;
         }
-        Survey { rungs: self.rungs.saturating_add(1), ..self }
+        Survey {
+            rungs: self.rungs.saturating_add(1),
+            ..self
+        }
     }
 
     fn opened(self) -> Survey {
@@ -46,7 +49,10 @@ impl Survey {
     }
 
     fn closed(self) -> Survey {
-        Survey { open: self.open.saturating_sub(1), ..self }
+        Survey {
+            open: self.open.saturating_sub(1),
+            ..self
+        }
     }
 }
 

@@ -30,7 +30,11 @@ pub(crate) fn write_all<T: Copy>(buffer: &mut [T], at: usize, items: &[T]) -> us
 pub(crate) fn digits_in(number: usize) -> usize
     ensures { λ r. ⌜ r ≡ length (decimal number) ⌝ }
 {
-    if number < 10 { 1 } else { digits_in(number / 10) + 1 }
+    if number < 10 {
+        1
+    } else {
+        digits_in(number / 10) + 1
+    }
 }
 
 /// Writes a number in decimal, and answers the index after it.

@@ -30,9 +30,18 @@ impl Operand {
         let number = number as u8;
         match area {
             0 if number == 0 => Some(Operand::True),
-            1 => Some(Operand::At(Point { area: Area::Input, number })),
-            2 => Some(Operand::At(Point { area: Area::Output, number })),
-            3 => Some(Operand::At(Point { area: Area::Marker, number })),
+            1 => Some(Operand::At(Point {
+                area: Area::Input,
+                number,
+            })),
+            2 => Some(Operand::At(Point {
+                area: Area::Output,
+                number,
+            })),
+            3 => Some(Operand::At(Point {
+                area: Area::Marker,
+                number,
+            })),
             _ => None,
         }
     }
@@ -106,5 +115,4 @@ fn shape(operation: u16, operand: Operand) -> Option<Instruction>
 /// The law on instructions and words, as a contract.
 pub fn words_agree()
     ensures { λ _. ⌜ WordLaws ⌝ }
-{
-}
+{}

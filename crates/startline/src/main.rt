@@ -42,10 +42,19 @@ fn chosen(rt: &LibcRuntime) -> io::Result<Command> {
 }
 
 fn help(rt: &LibcRuntime) -> io::Result<()> {
-    println!(rt, "startline: reads a ladder card from standard input and prints its listing")?;
+    println!(
+        rt,
+        "startline: reads a ladder card from standard input and prints its listing"
+    )?;
     println!(rt, "")?;
-    println!(rt, "  startline < CARD     print `OK rungs words depth first` and the listing; or, if the card")?;
-    println!(rt, "                       is refused, `NO number rung bit` and end with status 1")?;
+    println!(
+        rt,
+        "  startline < CARD     print `OK rungs words depth first` and the listing; or, if the card"
+    )?;
+    println!(
+        rt,
+        "                       is refused, `NO number rung bit` and end with status 1"
+    )?;
     println!(rt, "  startline --help     print this")
 }
 
@@ -64,7 +73,11 @@ fn print_refusal(rt: &LibcRuntime, fault: LadderFault) -> io::Result<()> {
     Err(failed())
 }
 
-fn print_listing(rt: &LibcRuntime, counts: (usize, usize, usize, usize), store: &Store) -> io::Result<()> {
+fn print_listing(
+    rt: &LibcRuntime,
+    counts: (usize, usize, usize, usize),
+    store: &Store,
+) -> io::Result<()> {
     let mut line = [0u8; LINE_BYTES];
     let mut listing = vec![in rt.alloc(); 0u8; LISTING_BYTES]?;
     let Ok(line_len) = write_status(counts, &mut line) else {

@@ -18,7 +18,10 @@ use instructions::Store;
 
 /// Fills a store with the words of a card's rungs, and answers their four numbers: rungs, words, greatest depth
 /// and the first rung with that depth. After a refusal the store is empty.
-pub fn translate_card(card: &[u8], staged: &mut Store) -> Result<(usize, usize, usize, usize), LadderFault>
+pub fn translate_card(
+    card: &[u8],
+    staged: &mut Store,
+) -> Result<(usize, usize, usize, usize), LadderFault>
     ensures verdict { λ r. ⌜ Told (now (card .entry)) r (now (staged .exit)) ⌝ }
     ensures refused { λ r. ⌜ Cases r (λ _. Unit {0}) (λ _. stored (now (staged .exit)) ≡ []) ⌝ }
 {
@@ -43,7 +46,11 @@ fn translate_rungs(card: &[u8], staged: &mut Store) -> Result<(), LadderFault>
 }
 
 /// Translates the next rung; false if none is left.
-fn translate_next(card: &[u8], progress: &mut Progress, staged: &mut Store) -> Result<bool, LadderFault>
+fn translate_next(
+    card: &[u8],
+    progress: &mut Progress,
+    staged: &mut Store,
+) -> Result<bool, LadderFault>
     ensures { λ r. ⌜ Stepped (now (card .entry)) (now (progress .entry)) (now (staged .entry)) r (now (progress .exit)) (now (staged .exit)) ⌝ }
 {
     let number = progress.rung();

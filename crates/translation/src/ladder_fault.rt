@@ -78,7 +78,9 @@ impl LadderFault {
     pub fn write_line(self, buffer: &mut [u8]) -> Result<usize, ShortBuffer>
         ensures { λ r. ⌜ Written (refusalLine (ladderNumber self) (ladderRung self) (ladderBit self)) (now (buffer .entry)) r (now (buffer .exit)) ⌝ }
     {
-        write_refusal(self.number(), self.rung() as usize, self.bit() as usize, buffer)
+        let rung = self.rung() as usize;
+        let bit = self.bit() as usize;
+        write_refusal(self.number(), rung, bit, buffer)
     }
 }
 

@@ -39,6 +39,6 @@ returns t c =
     record {
       value = omega arith;
       after-is = c .write-byte-2 .ensures .after-is
-      ∙ (λ i. put (c .write-number-last .ensures .after-is i) (v i) ((48 + c .args .number % 10) ∷ []))
-      ∙ sym (put-decimal (c .args .buffer .now) (c .args .at) (c .args .number) (omega arith) (omega arith));
+          ∙ (λ i. put (c .write-number-last .ensures .after-is i) (v i) ((48 + c .args .number % 10) ∷ []))
+          ∙ sym (put-decimal (c .args .buffer .now) (c .args .at) (c .args .number) (omega arith) (omega arith));
     }

@@ -19,8 +19,7 @@ returns-in-Break-at-rung c =
 
 pub returns-in-Continue-at-rung : need.returns-in-Continue-at-rung
 returns-in-Continue-at-rung c =
-    let found = rung-found (c .args .card .now) (c .args .progress .now) (c .read-rung .last .progress) (c .read-rung .result) (c .rung-number .result) (c .in-Some .rung) (c .read-rung .ensures) (sym (c .in-rung .ensures) ∙ c .in-Continue-in-rung .was tt ∙ ap Ok (c .in-Some .is)) in
-    (
+    let found = rung-found (c .args .card .now) (c .args .progress .now) (c .read-rung .last .progress) (c .read-rung .result) (c .rung-number .result) (c .in-Some .rung) (c .read-rung .ensures) (sym (c .in-rung .ensures) ∙ c .in-Continue-in-rung .was tt ∙ ap Ok (c .in-Some .is)) in (
       found .left,
       taken-step (c .args .card .now) (c .args .progress .now) (c .read-rung .last .progress) (c .args .staged .now) (c .translate .last .store) (c .in-Some .rung) (c .translate .result) (c .rung-number .result) (c .bit-bit .result) _ found (c .translate .ensures) (sym (c .at-rung .ensures) ∙ c .in-Continue-at-rung .was tt),
     )
