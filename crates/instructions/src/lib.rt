@@ -5,7 +5,6 @@ mod line;
 mod listing;
 mod report;
 mod store;
-mod survey;
 mod text;
 mod word;
 

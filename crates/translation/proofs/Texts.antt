@@ -35,7 +35,7 @@ pub room-next : {before mid : List ℕ} (us vs : List ℕ) → Room before (us +
 room-next {before} us vs p q = let h = p .fits in let e = ap length (q .is) in record { fits = omega (arith, length-append us vs, length-append before us) }
 
 module _ (c : Circuit) where
-  spell-append : (us vs : List Word) → spell c (us ++ vs) ≡ spell c us ++ spell c vs
+  pub spell-append : (us vs : List Word) → spell c (us ++ vs) ≡ spell c us ++ spell c vs
   spell-append us vs = map-append (λ w. wordOf (spelled c w)) us vs
 
   bracket-around : (opening : Word) (us vs : List Word) → spell c (opening ∷ ((us ++ vs) ++ close ∷ [])) ≡ wordOf (spelled c opening) ∷ (spell c us ++ (spell c vs ++ wordOf Close ∷ []))

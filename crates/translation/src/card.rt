@@ -3,6 +3,7 @@ ghost use mathlib.Core.Path.{_≡_};
 ghost use mathlib.Core.List.{[]};
 ghost use Rattle.std.specs.Results.{Cases};
 ghost use Rattle.instructions.specs.Stores.{stored};
+ghost use Rattle.programs.specs.Counts.{counts as countsOf};
 ghost use Rattle.translation.specs.Judgement.{Stepped, Told};
 use super::ladder_fault::LadderFault;
 use super::ladder_fault::LadderFromCard;
@@ -15,6 +16,7 @@ use cards::read_end;
 use cards::read_head;
 use cards::read_rung;
 use instructions::Store;
+use programs::counts;
 
 /// Fills a store with the words of a card's rungs, and answers their four numbers: rungs, words, greatest depth
 /// and the first rung with that depth. After a refusal the store is empty.
@@ -23,11 +25,11 @@ pub fn translate_card(
     staged: &mut Store,
 ) -> Result<(usize, usize, usize, usize), LadderFault>
     ensures verdict { λ r. ⌜ Told (now (card .entry)) r (now (staged .exit)) ⌝ }
-    ensures refused { λ r. ⌜ Cases r (λ _. Unit {0}) (λ _. stored (now (staged .exit)) ≡ []) ⌝ }
+    ensures counted { λ r. ⌜ Cases r (λ numbers. numbers ≡ countsOf (stored (now (staged .exit)))) (λ _. stored (now (staged .exit)) ≡ []) ⌝ }
 {
     staged.clear();
     match translate_rungs(card, staged) {
-        Ok(()) => Ok(staged.counts()),
+        Ok(()) => Ok(counts(staged.words())),
         Err(fault) => {
             staged.clear();
             Err(fault)
