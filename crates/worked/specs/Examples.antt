@@ -18,7 +18,8 @@ use Rattle.instructions.specs.declared.instruction.Instruction.the-variants.{Lo
 use Rattle.instructions.specs.Words.{wordOf}
 use Rattle.instructions.specs.Depth.{depth}
 use Rattle.instructions.specs.Lines.{listing}
-use Rattle.instructions.specs.Reports.{refusalLine}
+use Rattle.instructions.specs.Reports.{statusLine, refusalLine}
+use Rattle.programs.specs.Counts.{counts}
 use Rattle.cards.specs.declared.fault.CardCause.the-variants.{EndsEarly}
 use Rattle.cards.specs.Rungs.{faultAt, rungAt}
 use Rattle.translation.specs.declared.«ladder_fault».LadderFault.{LadderFault}
@@ -73,11 +74,13 @@ pub record WorkedExamples : Type 0 where
   pub latch-drawn : rungAt latchCard 8 ≡ Ok latch
   pub latch-accepted : CardJudged latchCard (Ok latchWords)
   pub latch-listed : listing latchWords ≡ lines (codes "LD %I0" ∷ codes "OR %M0" ∷ codes "ANDN %I1" ∷ codes "ST %M0" ∷ [])
+  pub latch-counted : statusLine (counts latchWords) ≡ lines (codes "OK 1 4 0 0" ∷ [])
   -- the card 01 is refused with 3 at rung 0, bit 8
   pub short-refused : CardJudged (1 ∷ []) (Err shortFault)
   pub short-told : refusalLine (ladderNumber shortFault) (ladderRung shortFault) (ladderBit shortFault) ≡ lines (codes "NO 3 0 8" ∷ [])
   -- the card 00 is accepted, and has no words
   pub none-accepted : CardJudged (0 ∷ []) (Ok [])
+  pub none-counted : statusLine (counts []) ≡ lines (codes "OK 0 0 0 0" ∷ [])
   -- the rung with a detour is listed so, and two brackets are open at once
   pub detour-listed : Listed detour detourWords
   pub detour-told : listing detourWords ≡ lines (codes "LD %I0" ∷ codes "AND(" ∷ codes "LD %I1" ∷ codes "OR(" ∷ codes "LD %I2" ∷ codes "AND %I3" ∷ codes ")" ∷ codes ")" ∷ codes "ST %Q0" ∷ [])
