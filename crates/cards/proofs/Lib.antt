@@ -2,3 +2,9 @@ pub mod Places
 pub mod Rows
 pub mod Limits
 pub mod Endings
+pub mod Numbers
+pub mod Stretches
+pub mod Codes
+pub mod PartBits
+pub mod RowBits
+pub mod RungBits

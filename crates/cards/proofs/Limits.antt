@@ -21,10 +21,10 @@ use Rattle.cards.specs.declared.sizes.Sizes.{Sizes}
 use Rattle.cards.specs.Bits.{fieldAt}
 use Rattle.cards.specs.Rungs.{andThen, rowAt, placed, contactOf, linkOf, linkAt, linksAt, pointOf, coilOf, coilAt, coilsAt, countable, sized, sizesAt}
 
-no-err : {A : Type 0} {e : CardFault} {x : A} → _≡_ {A = Result A CardFault} (Err e) (Ok x) → ⊥
+pub no-err : {A : Type 0} {e : CardFault} {x : A} → _≡_ {A = Result A CardFault} (Err e) (Ok x) → ⊥
 no-err p = let z : _≡_ {A = ℕ} 0 1 = cc in omega arith
 
-no-none : {A : Type 0} {x : A} → _≡_ {A = Option A} None (Some x) → ⊥
+pub no-none : {A : Type 0} {x : A} → _≡_ {A = Option A} None (Some x) → ⊥
 no-none p = let z : _≡_ {A = ℕ} 0 1 = cc in omega arith
 
 -- what is accepted has come through every part
@@ -32,11 +32,16 @@ through : {A B : Type 0} (r : Result A CardFault) (next : A → Result B CardFau
 through (Ok x) next P y f e = f x e
 through (Err d) next P y f e = absurd (no-err e)
 
-chosen-ok : {A : Type 0} (b : Bool) (x : A) (d : CardFault) (y : A) → cond b (Ok x) (Err d) ≡ Ok y → (b ≡ true) × (x ≡ y)
+-- what was accepted came through the first part
+pub opened : {A B : Type 0} (r : Result A CardFault) (next : A → Result B CardFault) (y : B) → andThen r next ≡ Ok y → (x : A) × (r ≡ Ok x) × (next x ≡ Ok y)
+opened (Ok x) next y e = (x, refl, e)
+opened (Err d) next y e = absurd (no-err e)
+
+pub chosen-ok : {A : Type 0} (b : Bool) (x : A) (d : CardFault) (y : A) → cond b (Ok x) (Err d) ≡ Ok y → (b ≡ true) × (x ≡ y)
 chosen-ok true x d y e = (refl, cc)
 chosen-ok false x d y e = absurd (no-err e)
 
-chosen-some : {A : Type 0} (b : Bool) (x y : A) → cond b (Some x) None ≡ Some y → (b ≡ true) × (x ≡ y)
+pub chosen-some : {A : Type 0} (b : Bool) (x y : A) → cond b (Some x) None ≡ Some y → (b ≡ true) × (x ≡ y)
 chosen-some true x y e = (refl, cc)
 chosen-some false x y e = absurd (no-none e)
 
@@ -60,7 +65,7 @@ sizes-counted bytes at n =
     through (fieldAt bytes at 6) _ Counted n (λ j. through (fieldAt bytes (at + 6) 7) _ Counted n (λ l. through (fieldAt bytes (at + 13) 4) _ Counted n (λ c. counted at j l c n)))
 
 -- a link lies between the joints
-kept : {A : Type 0} (o : Option A) (d : CardFault) (x : A) → okOr o d ≡ Ok x → o ≡ Some x
+pub kept : {A : Type 0} (o : Option A) (d : CardFault) (x : A) → okOr o d ≡ Ok x → o ≡ Some x
 kept None d x e = absurd (no-err e)
 kept (Some y) d x e = cc
 

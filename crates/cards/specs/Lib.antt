@@ -3,3 +3,4 @@ pub mod Bits
 pub mod Rungs
 pub mod Reading
 pub mod Cards
+pub mod Encoding

@@ -2,11 +2,12 @@
 use mathlib.Core.Path.{_≡_, refl, sym, ap, subst, _∙_}
 use mathlib.Core.Bool.{Bool, true, false, cond, _&&_}
 use mathlib.Core.List.{List, [], _∷_, _++_, map}
+use mathlib.Core.Logic.{_⊎_, inl, inr}
 use Prim.Native.Nat.{ℕ, zero, suc, _+_, _-_, _≤_, _<_, max}
 use native.Mathlib.Omega.{arith}
 use lib.Dec.{eqb, ltb, lit≤}
-use lib.ListN.{length}
-use Rattle.std.proofs.shelf.Ways.{tells}
+use lib.ListN.{length, getD}
+use Rattle.std.proofs.shelf.Ways.{tells, leb-tells}
 use Rattle.std.proofs.shelf.Lists.{append-assoc, append-nil, length-append, length-map}
 use Rattle.std.specs.declared.option.Option.the-variants.{Some, None}
 use Rattle.std.specs.declared.result.Result.{Result}
@@ -25,7 +26,9 @@ use Rattle.instructions.proofs.Words.{word-laws}
 use Rattle.instructions.proofs.Deepest.{deepest-from}
 use Rattle.programs.specs.declared.checker.State.{State}
 use Rattle.programs.specs.declared.checker.State.the-variants.{Begun, Opened, Joining, Stored}
-use Rattle.programs.specs.Rules.{Place, start, loads, joins, drivesArea, when, next, startsRung, counted, stepTo, step, stepIf, onward, led}
+use Rattle.programs.specs.declared.fault.RuleFault.{RuleFault}
+use Rattle.programs.specs.declared.fault.RuleFault.the-variants.{Unfinished}
+use Rattle.programs.specs.Rules.{Place, start, loads, joins, drivesArea, when, next, startsRung, counted, stepTo, step, stepIf, onward, led, ends, concluded, judgedAt, judged, accepted, keeps}
 use Rattle.programs.proofs.Rules.{led-append}
 use Rattle.wiring.specs.declared.rung.Action.{Action}
 use Rattle.wiring.specs.declared.rung.Action.the-variants as action
@@ -35,6 +38,17 @@ use Rattle.wiring.specs.declared.rung.Contact.the-variants.{Wire, Open, Closed}
 use Rattle.wiring.specs.Circuit.{Circuit, link-at}
 use Rattle.wiring.specs.Drawn.{drivable, driven}
 use Rattle.wiring.specs.Wiring.{Wiring, link, series, parallel}
+use Rattle.cards.specs.declared.fault.CardCause.the-variants.{TooManyRungs}
+use Rattle.cards.specs.declared.fault.CardFault.{CardFault}
+use Rattle.cards.specs.Bits.{fieldAt}
+use Rattle.cards.specs.Rungs.{andThen, faultAt}
+use Rattle.cards.specs.Cards.{fewRungs, headAt}
+use Rattle.cards.specs.Encoding.{contactNumber, Drawable}
+use Rattle.cards.proofs.RungBits.{rung-read}
+use Rattle.std.specs.shelf.Lists.{All}
+use Rattle.wiring.specs.declared.rung.Link.{Link}
+use Rattle.translation.specs.Translation.{Listed}
+use Rattle.translation.specs.Judgement.{Verdict, Judged, ended, trailed, misread, crossed, deep, long, taken, CardJudged, headless, headed}
 use Rattle.translation.specs.declared.emitters.Place.the-variants.{First, Later}
 use Rattle.translation.specs.Spelling.{loading, anding, oring, acting, coiling, coilWords, rungWords}
 use Rattle.translation.specs.Drafts.{seriesWords, branchWords}
@@ -335,3 +349,71 @@ rung-leads c w P s r n l d m k =
     ∙ ap (λ y. led y ys) (T .first s 0 r n l (t .0) (omega arith) k)
     ∙ coils-lead (c .coils) (r + 1) (n + length xs) (P .some-coil) (P .drives) (P .coils) k (omega arith)
     ∙ ap (λ y. Ok (at Stored 0 (r + 1) y)) j
+
+-- a rung that a card draws has plain points
+contacts-plain : (ls : List Link) → All (λ (l : Link). contactNumber (l .contact) < 256) ls → (i : ℕ) → Plain-contact (getD ls i (record { from = 0; to = 0; contact = Wire }) .contact)
+contacts-plain [] h i = tt
+contacts-plain (l ∷ ls) h zero = plain (l .contact) (h .0)
+  where
+    plain : (x : Contact) → contactNumber x < 256 → Plain-contact x
+    plain Wire k = tt
+    plain (Open p) k = k
+    plain (Closed p) k = k
+contacts-plain (l ∷ ls) h (suc i) = contacts-plain ls (h .1) i
+
+coils-plain : (xs : List Coil) → All (λ (x : Coil). x .point .number < 256) xs → Plain-coils xs
+coils-plain [] h = tt
+coils-plain (x ∷ xs) h = (h .0, coils-plain xs (h .1))
+
+pub rung-plain : (c : Circuit) → Drawable c → Plain-rung c
+rung-plain c D = record { contacts = contacts-plain (c .links) (D .contact-points); coils = coils-plain (c .coils) (D .coil-points); some-coil = D .some-coil; drives = D .driven }
+
+no-err : {A E : Type 0} {x : A} {e : E} → _≡_ {A = Result A E} (Err e) (Ok x) → ⊥
+no-err p = let z : _≡_ {A = ℕ} 0 1 = cc in omega arith
+
+-- from rung k on: the words so far have led to a place where a program may end
+kept-from : {bytes : List ℕ} {rungs k at′ : ℕ} {words all : List ℕ} → rungs ≤ 128 → (s : State) → loads s ≡ true → ends s ≡ true → led (Ok start) words ≡ Ok (at s 0 k (length words)) → (v : Verdict) → v ≡ Ok all → Judged bytes rungs k at′ words v → keeps all ≡ true
+kept-from {all = all} m s l e p v q (ended at′ words h) =
+    let w : words ≡ all = cc in
+    subst (λ (x : List ℕ). keeps x ≡ true) w
+    (ap (λ r. accepted (judgedAt r)) p ∙ ap (λ b. accepted {X = Unit} (cond b (Ok tt) (Err Unfinished))) e)
+kept-from m s l e p v q (trailed at′ words x h) = absurd (no-err q)
+kept-from m s l e p v q (misread k at′ words x n h) = absurd (no-err q)
+kept-from m s l e p v q (crossed k at′ words c n h x) = absurd (no-err q)
+kept-from m s l e p v q (deep k at′ words c new n h x y) = absurd (no-err q)
+kept-from m s l e p v q (long k at′ words c new n h x y z) = absurd (no-err q)
+kept-from {bytes = bytes} m s l e p v q (taken k at′ words c new v′ n h x y z j) =
+    let w = x .some .0 in
+    let is : rungWords c w ≡ new = x .every w (x .some .1) in
+    let d = ap depth is in
+    let len = ap length is in
+    let sum : length words + length (rungWords c w) ≡ length (words ++ new) = omega (arith, length-append words new) in
+    let on = rung-leads c w (rung-plain c (rung-read bytes at′ c h .drawable)) s k (length words) l (omega arith) (omega arith) (omega arith) in
+    kept-from m Stored refl refl
+    (led-append (Ok start) words new ∙ ap (λ r. led r new) p ∙ ap (led (Ok (at s 0 k (length words)))) (sym is) ∙ on ∙ ap (λ (i : ℕ). Ok (at Stored 0 (k + 1) i)) sum)
+    v′ q j
+
+head-few : (bytes : List ℕ) (rungs : ℕ) → headAt bytes ≡ Ok rungs → rungs ≤ 128
+head-few bytes rungs e = by (fieldAt bytes 0 8) e
+  where
+    by : (r : Result ℕ CardFault) → andThen r fewRungs ≡ Ok rungs → rungs ≤ 128
+    by (Err d) e = absurd (no-err e)
+    by (Ok n) e = few (ltb 128 n) (leb-tells (suc 128) n) e
+      where
+        few : (b : Bool) → ((b ≡ true) × (suc 128 ≤ n)) ⊎ ((b ≡ false) × (n < suc 128)) → cond b (Err (faultAt TooManyRungs 0)) (Ok n) ≡ Ok rungs → rungs ≤ 128
+        few true t e = absurd (no-err e)
+        few false (inl t) e = let z : _≡_ {A = ℕ} 0 1 = cc in absurd (omega arith)
+        few false (inr t) e = let q : n ≡ rungs = cc in let h = t .1 in omega arith
+
+-- the words of an accepted card keep the rules
+pub card-keeps : (bytes words : List ℕ) (v : Verdict) → v ≡ Ok words → CardJudged bytes v → keeps words ≡ true
+card-keeps bytes words v q (headless e h) = absurd (no-err q)
+card-keeps bytes words v q (headed rungs v′ h j) = kept-from (head-few bytes rungs h) Begun refl refl refl v′ q j
+
+-- so a program never refuses them
+pub never-refused : (bytes words ws : List ℕ) (e : RuleFault) → CardJudged bytes (Ok words) → ws ≡ words → judged ws ≡ Err e → ⊥
+never-refused bytes words ws e j s q =
+    let k : keeps ws ≡ true = ap keeps s ∙ card-keeps bytes words (Ok words) refl j in
+    let f : keeps ws ≡ false = ap accepted q in
+    let z : _≡_ {A = ℕ} 0 1 = cc in
+    omega arith

@@ -8,6 +8,9 @@ use Rattle.std.specs.declared.result.Result.{Result}
 use Rattle.std.specs.declared.result.Result.the-variants.{Ok, Err}
 use Rattle.instructions.specs.declared.store.Store.{Store}
 use Rattle.instructions.specs.Stores.{stored}
+use Rattle.programs.specs.declared.program.Program.{Program}
+use Rattle.programs.specs.Counts.{counts}
+use Rattle.programs.specs.Programs.{held}
 use Rattle.wiring.specs.Circuit.{Circuit, Series-parallel}
 use Rattle.cards.specs.declared.fault.CardFault.{CardFault}
 use Rattle.cards.specs.declared.progress.Progress.{Progress}
@@ -67,3 +70,8 @@ Stepped bytes p s (Err e) p′ s′ = JudgedFrom bytes p s (Err e)
 abbrev pub Told : {U : Type 0} → List ℕ → Result U LadderFault → Store → Type 0
 Told bytes (Ok u) s = CardJudged bytes (Ok (stored s))
 Told bytes (Err e) s = CardJudged bytes (Err e)
+
+-- a program was replaced by that of a card, and its four numbers were told; or the card was refused and the program is as it was
+abbrev pub CardTaken : List ℕ → Program → Result (ℕ × ℕ × ℕ × ℕ) LadderFault → Program → Type 0
+CardTaken bytes before (Ok numbers) after = CardJudged bytes (Ok (held after)) × (numbers ≡ counts (held after))
+CardTaken bytes before (Err e) after = CardJudged bytes (Err e) × (after ≡ before)

@@ -4,7 +4,7 @@ ghost use mathlib.Core.List.{[]};
 ghost use Rattle.std.specs.Results.{Cases};
 ghost use Rattle.instructions.specs.Stores.{stored};
 ghost use Rattle.programs.specs.Counts.{counts as countsOf};
-ghost use Rattle.translation.specs.Judgement.{Stepped, Told};
+ghost use Rattle.translation.specs.Judgement.{Stepped, Told, CardTaken};
 use super::ladder_fault::LadderFault;
 use super::ladder_fault::LadderFromCard;
 use super::ladder_fault::LadderFromRung;
@@ -16,6 +16,7 @@ use cards::read_end;
 use cards::read_head;
 use cards::read_rung;
 use instructions::Store;
+use programs::Program;
 use programs::counts;
 
 /// Fills a store with the words of a card's rungs, and answers their four numbers: rungs, words, greatest depth
@@ -45,6 +46,23 @@ fn translate_rungs(card: &[u8], staged: &mut Store) -> Result<(), LadderFault>
     while translate_next(card, &mut progress, staged)? {}
     in_rung(read_end(card, &progress), progress.rung())?;
     Ok(())
+}
+
+/// Replaces a program by that of a card, through a staging store, and answers the four numbers; a refusal leaves the
+/// program as it was.
+pub fn take_card(
+    card: &[u8],
+    staged: &mut Store,
+    program: &mut Program,
+) -> Result<(usize, usize, usize, usize), LadderFault>
+    ensures { λ r. ⌜ CardTaken (now (card .entry)) (now (program .entry)) r (now (program .exit)) ⌝ }
+{
+    let numbers = translate_card(card, staged)?;
+    let Ok(taken) = Program::of(staged.words()) else {
+        unreachable()
+    };
+    *program = taken;
+    Ok(numbers)
 }
 
 /// Translates the next rung; false if none is left.

@@ -7,6 +7,7 @@ mod rung;
 mod rung_fault;
 mod spelling;
 
+pub use card::take_card;
 pub use card::translate_card;
 pub use ladder_fault::AtRung;
 pub use ladder_fault::InRung;
