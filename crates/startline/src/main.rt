@@ -1,29 +1,32 @@
-//! Translates a ladder card, read from standard input, into its listing.
+//! Translates a ladder card into its listing, or reads a listing and writes it back.
+use instructions::ShortBuffer;
 use instructions::Store;
-use instructions::write_status;
+use listings::read_into;
+use programs::Program;
 use std::env;
 use std::io;
 use std::io::Read;
 use std::io::Write;
-use translation::LadderFault;
-use translation::translate_card;
+use translation::take_card;
 
 /// The longest listing: 4,096 lines of at most 11 bytes.
 const LISTING_BYTES: usize = 45056;
 
-/// The longest status or refusal line.
+/// Room for every status line and refusal line.
 const LINE_BYTES: usize = 96;
 
 /// What the arguments ask for.
 #[derive(Clone, Copy)]
 enum Command {
-    Translate,
+    Card,
+    Listing,
     Help,
     Unknown,
 }
 
 fn command_of(word: &str) -> Command {
     match word {
+        "listing" => Command::Listing,
         "--help" => Command::Help,
         _ => Command::Unknown,
     }
@@ -33,7 +36,7 @@ fn chosen(rt: &LibcRuntime) -> io::Result<Command> {
     let mut args = env::args(rt)?;
     let _program = args.next();
     let Some(word) = args.next() else {
-        return Ok(Command::Translate);
+        return Ok(Command::Card);
     };
     if args.next().is_some() {
         return Ok(Command::Unknown);
@@ -42,20 +45,15 @@ fn chosen(rt: &LibcRuntime) -> io::Result<Command> {
 }
 
 fn help(rt: &LibcRuntime) -> io::Result<()> {
-    println!(
-        rt,
-        "startline: reads a ladder card from standard input and prints its listing"
-    )?;
+    println!(rt, "startline: ladder cards and listings of the signal mast")?;
     println!(rt, "")?;
-    println!(
-        rt,
-        "  startline < CARD     print `OK rungs words depth first` and the listing; or, if the card"
-    )?;
-    println!(
-        rt,
-        "                       is refused, `NO number rung bit` and end with status 1"
-    )?;
-    println!(rt, "  startline --help     print this")
+    println!(rt, "  startline < CARD              translate a card")?;
+    println!(rt, "  startline listing < LISTING   read a listing and write it back")?;
+    println!(rt, "  startline --help              print this")?;
+    println!(rt, "")?;
+    println!(rt, "Prints `OK rungs words depth first` and the listing, and ends with status 0;")?;
+    println!(rt, "or, if the input is refused, `NO number rung bit` for a card and")?;
+    println!(rt, "`NO number line byte` for a listing, and ends with status 1.")
 }
 
 /// What ends the program with status 1.
@@ -63,54 +61,69 @@ fn failed() -> io::Error {
     io::Error::from(io::ErrorKind::InvalidInput)
 }
 
-fn print_refusal(rt: &LibcRuntime, fault: LadderFault) -> io::Result<()> {
-    let mut line = [0u8; LINE_BYTES];
-    if let Ok(len) = fault.write_line(&mut line) {
-        if len <= LINE_BYTES {
-            rt.stdout().write_all(&line[0..len])?;
-        }
+/// Prints the front of a buffer that a text was written into.
+fn print_front(rt: &LibcRuntime, written: Result<usize, ShortBuffer>, buffer: &[u8]) -> io::Result<()> {
+    let Ok(len) = written else {
+        return Err(failed());
+    };
+    if len > buffer.len() {
+        return Err(failed());
     }
+    rt.stdout().write_all(&buffer[0..len])
+}
+
+fn print_program(rt: &LibcRuntime, program: &Program) -> io::Result<()> {
+    let mut line = [0u8; LINE_BYTES];
+    let written = program.write_status(&mut line);
+    print_front(rt, written, &line)?;
+    let mut listing = vec![in rt.alloc(); 0u8; LISTING_BYTES]?;
+    let written = program.write_listing(&mut listing);
+    print_front(rt, written, listing.as_slice())
+}
+
+fn refuse(rt: &LibcRuntime, written: Result<usize, ShortBuffer>, line: &[u8]) -> io::Result<()> {
+    print_front(rt, written, line)?;
     Err(failed())
 }
 
-fn print_listing(
-    rt: &LibcRuntime,
-    counts: (usize, usize, usize, usize),
-    store: &Store,
-) -> io::Result<()> {
-    let mut line = [0u8; LINE_BYTES];
-    let mut listing = vec![in rt.alloc(); 0u8; LISTING_BYTES]?;
-    let Ok(line_len) = write_status(counts, &mut line) else {
-        return Err(failed());
-    };
-    let Ok(listing_len) = store.write_listing(&mut listing) else {
-        return Err(failed());
-    };
-    if line_len > LINE_BYTES || listing_len > listing.len() {
-        return Err(failed());
+fn translate(rt: &LibcRuntime, card: &[u8]) -> io::Result<()> {
+    let mut program = Program::empty();
+    let mut staged = Store::new();
+    match take_card(card, &mut staged, &mut program) {
+        Ok(_) => print_program(rt, &program),
+        Err(fault) => {
+            let mut line = [0u8; LINE_BYTES];
+            let written = fault.write_line(&mut line);
+            refuse(rt, written, &line)
+        }
     }
-    let mut out = rt.stdout();
-    out.write_all(&line[0..line_len])?;
-    out.write_all(&listing[0..listing_len])
 }
 
-fn translate(rt: &LibcRuntime) -> io::Result<()> {
-    let mut card = Vec::new(rt.alloc());
-    let mut input = rt.stdin();
-    if input.read_to_end(&mut card).is_err() {
+fn read_back(rt: &LibcRuntime, listing: &[u8]) -> io::Result<()> {
+    let mut program = Program::empty();
+    match read_into(listing, &mut program) {
+        Ok(_) => print_program(rt, &program),
+        Err(fault) => {
+            let mut line = [0u8; LINE_BYTES];
+            let written = fault.write_line(&mut line);
+            refuse(rt, written, &line)
+        }
+    }
+}
+
+fn input(rt: &LibcRuntime) -> io::Result<Vec<u8>> {
+    let mut bytes = Vec::new(rt.alloc());
+    if rt.stdin().read_to_end(&mut bytes).is_err() {
         eprintln!(rt, "startline: standard input cannot be read")?;
         return Err(failed());
     }
-    let mut store = Store::new();
-    match translate_card(card.as_slice(), &mut store) {
-        Ok(counts) => print_listing(rt, counts, &store),
-        Err(fault) => print_refusal(rt, fault),
-    }
+    Ok(bytes)
 }
 
 fn main(rt: LibcRuntime) -> io::Result<()> {
     match chosen(&rt)? {
-        Command::Translate => translate(&rt),
+        Command::Card => translate(&rt, input(&rt)?.as_slice()),
+        Command::Listing => read_back(&rt, input(&rt)?.as_slice()),
         Command::Help => help(&rt),
         Command::Unknown => {
             eprintln!(rt, "startline: unknown argument; see startline --help")?;
