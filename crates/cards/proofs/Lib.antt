@@ -8,3 +8,4 @@ pub mod Codes
 pub mod PartBits
 pub mod RowBits
 pub mod RungBits
+pub mod CardBits

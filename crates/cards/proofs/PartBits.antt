@@ -27,11 +27,11 @@ pub length-linkBits : (l : Link) → length (linkBits l) ≡ 22
 unfolding fieldBits
 length-linkBits l = refl
 
-pub record LinkRead (bytes : List ℕ) (joints at : ℕ) (l : Link) : Type 0 where
+pub record LinkRead (bytes : List ℕ) (at : ℕ) (l : Link) : Type 0 where
   pub stretch : Stretch (bits bytes) at 22 (linkBits l)
   pub point : contactNumber (l .contact) < 256
 
-pub link-read : (bytes : List ℕ) (joints at : ℕ) (l : Link) → linkAt bytes joints at ≡ Ok l → LinkRead bytes joints at l
+pub link-read : (bytes : List ℕ) (joints at : ℕ) (l : Link) → linkAt bytes joints at ≡ Ok l → LinkRead bytes at l
 link-read bytes joints at l e =
     let a = opened (fieldAt bytes at 5) _ l e in
     let b = opened (fieldAt bytes (at + 5) 5) _ l (a .2) in
@@ -46,7 +46,7 @@ link-read bytes joints at l e =
     let fn = field-read bytes (at + 14) 8 (n .0) (n .1) in
     let s = behind at 14 8 (at + 14) refl (behind at 12 2 (at + 12) refl (behind at 10 2 (at + 10) refl (behind at 5 5 (at + 5) refl (fa .stretch) (fb .stretch)) (fc .stretch)) (fd .stretch)) (fn .stretch) in
     let p : fieldBits 5 (a .0) ++ fieldBits 5 (b .0) ++ fieldBits 2 (c .0) ++ fieldBits 2 (d .0) ++ fieldBits 8 (n .0) ≡ linkBits l =
-        (λ i. fieldBits 5 (sym (k .from-is) i) ++ fieldBits 5 (sym (k .to-is) i) ++ fieldBits 2 (sym (k .contact .kind-is) i) ++ fieldBits 2 (sym (k .contact .area-is) i) ++ fieldBits 8 (sym (k .contact .number-is) i)) in
+    (λ i. fieldBits 5 (sym (k .from-is) i) ++ fieldBits 5 (sym (k .to-is) i) ++ fieldBits 2 (sym (k .contact .kind-is) i) ++ fieldBits 2 (sym (k .contact .area-is) i) ++ fieldBits 8 (sym (k .contact .number-is) i)) in
     record {
       stretch = subst (Stretch (bits bytes) at 22) p s;
       point = subst (λ (x : ℕ). x < 256) (sym (k .contact .number-is)) (fn .small);
@@ -95,7 +95,7 @@ coil-read bytes at c e =
     let k = coil-code (a .0) (b .0) (n .0) c (fa .small) (kept (coilOf (a .0) (pointOf (b .0) (n .0))) (faultAt CoilField at) c (n .2)) in
     let s = behind at 4 8 (at + 4) refl (behind at 2 2 (at + 2) refl (fa .stretch) (fb .stretch)) (fn .stretch) in
     let p : fieldBits 2 (a .0) ++ fieldBits 2 (b .0) ++ fieldBits 8 (n .0) ≡ coilBits c =
-        (λ i. fieldBits 2 (sym (k .action-is) i) ++ fieldBits 2 (sym (k .point .area-is) i) ++ fieldBits 8 (sym (k .point .number-is) i)) in
+    (λ i. fieldBits 2 (sym (k .action-is) i) ++ fieldBits 2 (sym (k .point .area-is) i) ++ fieldBits 8 (sym (k .point .number-is) i)) in
     record {
       stretch = subst (Stretch (bits bytes) at 12) p s;
       point = subst (λ (x : ℕ). x < 256) (sym (k .point .number-is)) (fn .small);

@@ -9,7 +9,7 @@ use Rattle.std.specs.shelf.Lists.{All}
 use Rattle.std.specs.declared.result.Result.{Result}
 use Rattle.std.specs.declared.result.Result.the-variants.{Ok}
 use Rattle.cards.specs.declared.fault.CardFault.{CardFault}
-use Rattle.cards.specs.Rungs.{andThen, rowAt}
+use Rattle.cards.specs.Rungs.{rowAt}
 use Rattle.cards.proofs.Limits.{opened}
 use Rattle.cards.proofs.Stretches.{Stretch, no-stretch, behind, front, back}
 

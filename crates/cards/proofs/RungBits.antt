@@ -1,21 +1,18 @@
 -- Rungs: what is read is what the bits encode, and what is encoded is read.
-use mathlib.Core.Path.{_≡_, refl, sym, ap, subst, _∙_}
-use mathlib.Core.Bool.{true, _&&_}
+use mathlib.Core.Path.{_≡_, refl, sym, subst, _∙_}
+use mathlib.Core.Bool.{true}
 use mathlib.Core.List.{List, [], _∷_, _++_}
-use Prim.Native.Nat.{ℕ, _+_, _*_, _≤_, _<_}
+use Prim.Native.Nat.{ℕ, _+_, _*_, _<_}
 use native.Mathlib.Omega.{arith}
-use lib.Dec.{leb}
 use lib.ListN.{length, length-append}
 use Rattle.std.specs.Joined.{joined}
 use Rattle.std.specs.shelf.Lists.{All}
-use Rattle.std.specs.declared.result.Result.{Result}
 use Rattle.std.specs.declared.result.Result.the-variants.{Ok}
 use Rattle.std.proofs.shelf.Tests.{and-parts, and-from, le-leb, cond-true}
 use Rattle.wiring.specs.declared.rung.Link.{Link}
 use Rattle.wiring.specs.declared.rung.Coil.{Coil}
 use Rattle.wiring.specs.Drawn.{between, linked, drivable, driven}
 use Rattle.wiring.specs.Circuit.{Circuit}
-use Rattle.cards.specs.declared.fault.CardFault.{CardFault}
 use Rattle.cards.specs.declared.sizes.Sizes.{Sizes}
 use Rattle.cards.specs.Bits.{bits, fieldAt}
 use Rattle.cards.specs.Rungs.{linkAt, linksAt, coilAt, coilsAt, countable, sized, sizesAt, rungAt, rungBits}
@@ -24,7 +21,7 @@ use Rattle.cards.proofs.Limits.{opened, chosen-ok, Counted, sizes-counted, lin
 use Rattle.cards.proofs.Rows.{rung-from}
 use Rattle.cards.proofs.Stretches.{Stretch, behind, front, back, field-read, field-reads}
 use Rattle.cards.proofs.PartBits.{length-linkBits, link-read, Fit-link, link-reads, length-coilBits, coil-read, Fit-coil, coil-reads}
-use Rattle.cards.proofs.RowBits.{length-joined, RowRead, row-read, row-reads}
+use Rattle.cards.proofs.RowBits.{length-joined, row-read, row-reads}
 
 -- the three counts
 abbrev sizesBits : Sizes → List ℕ
@@ -126,7 +123,7 @@ rung-read bytes at c e =
     subst (RungHeld bytes at) q
     (record {
       stretch = subst (λ (x : ℕ). Stretch all at (17 + 22 * length ls + 12 * x) (fieldBits 6 (n .joints) ++ fieldBits 7 (length ls) ++ fieldBits 4 x ++ joined linkBits ls ++ joined coilBits ks)) (sym ck)
-        (subst (λ (x : ℕ). Stretch all at (17 + 22 * x + 12 * n .coils) (fieldBits 6 (n .joints) ++ fieldBits 7 x ++ fieldBits 4 (n .coils) ++ joined linkBits ls ++ joined coilBits ks)) (sym cl) whole);
+          (subst (λ (x : ℕ). Stretch all at (17 + 22 * x + 12 * n .coils) (fieldBits 6 (n .joints) ++ fieldBits 7 x ++ fieldBits 4 (n .coils) ++ joined linkBits ls ++ joined coilBits ks)) (sym cl) whole);
       drawable = record {
         two = c0;
         most = c1;

@@ -1,22 +1,19 @@
 -- Stretches of a card's bits, one behind the other, and the fields that they write.
 use mathlib.Core.Path.{_≡_, refl, sym, ap, subst, _∙_}
-use mathlib.Core.Bool.{Bool, true, cond}
-use mathlib.Core.List.{List, [], _∷_, _++_}
-use Prim.Native.Nat.{ℕ, zero, suc, _+_, _-_, _*_, _^_, _≤_, _<_}
+use mathlib.Core.List.{List, [], _++_}
+use Prim.Native.Nat.{ℕ, _+_, _-_, _*_, _^_, _≤_, _<_}
 use native.Mathlib.Omega.{arith}
 use lib.Dec.{leb}
 use lib.ListN.{length, take, drop, length-drop, length-append}
 use lib.Seq.{take-add}
-use Rattle.std.specs.declared.result.Result.{Result}
-use Rattle.std.specs.declared.result.Result.the-variants.{Ok, Err}
-use Rattle.std.proofs.shelf.Lists.{append-assoc, append-cancel-left, drop-drop, take-at, drop-at, take-take, length-take-le, take-append-drop}
+use Rattle.std.specs.declared.result.Result.the-variants.{Ok}
+use Rattle.std.proofs.shelf.Lists.{append-cancel-left, drop-drop, take-at, drop-at, take-take, length-take-le, take-append-drop}
 use Rattle.std.proofs.shelf.Tests.{leb-true, le-leb, cond-true}
-use Rattle.cards.specs.declared.fault.CardFault.{CardFault}
 use Rattle.cards.specs.Bits.{bits, numberOn, fieldOf, fieldAt}
 use Rattle.cards.specs.Encoding.{fieldBits}
 use Rattle.cards.proofs.Places.{length-bits}
 use Rattle.cards.proofs.Limits.{chosen-ok}
-use Rattle.cards.proofs.Numbers.{Binary, length-fieldBits, bits-of, number-of, number-below, bits-binary, binary-take, binary-drop}
+use Rattle.cards.proofs.Numbers.{bits-of, number-of, number-below, bits-binary, binary-take, binary-drop}
 
 -- from a bit on, so many bits are these
 pub record Stretch (all : List ℕ) (at width : ℕ) (part : List ℕ) : Type 0 where
@@ -24,12 +21,6 @@ pub record Stretch (all : List ℕ) (at width : ℕ) (part : List ℕ) : Type 0 
   pub within : at + width ≤ length all
 
 module _ {all : List ℕ} where
-  pub stretch-long : {at width : ℕ} {part : List ℕ} → Stretch all at width part → length part ≡ width
-  stretch-long {at} {width} {part} s =
-      let h = s .within in
-      let l : width ≤ length (drop at all) = omega (arith, length-drop at all) in
-      ap length (sym (s .are)) ∙ length-take-le width (drop at all) l
-
   pub no-stretch : {at : ℕ} → at ≤ length all → Stretch all at 0 []
   no-stretch h = record { are = refl; within = omega arith }
 

@@ -6,7 +6,6 @@ use Prim.Native.Nat.{ℕ, zero, suc, _/_, _%_, _^_, _≤_, _<_}
 use lib.ListN.{length, replicate}
 use Rattle.std.specs.Joined.{joined}
 use Rattle.std.specs.shelf.Lists.{All}
-use Rattle.points.specs.declared.point.Point.{Point}
 use Rattle.points.specs.Points.{areaCode}
 use Rattle.wiring.specs.declared.rung.Contact.{Contact}
 use Rattle.wiring.specs.declared.rung.Contact.the-variants.{Wire, Open, Closed}

@@ -33,7 +33,11 @@ fn point_of(area: u16, number: u16) -> Option<Point>
 fn wire_of(area: u16, number: u16) -> Option<Contact>
     ensures { λ r. ⌜ r ≡ cond (eqb area 0 && eqb number 0) (Some Contact.Wire) None ⌝ }
 {
-    if area == 0 && number == 0 { Some(Contact::Wire) } else { None }
+    if area == 0 && number == 0 {
+        Some(Contact::Wire)
+    } else {
+        None
+    }
 }
 
 fn open_at(point: Option<Point>) -> Option<Contact>

@@ -28,7 +28,13 @@ fn digit(byte: u8) -> Option<u8> {
 }
 
 /// Takes over a card or a listing, and writes the refusal line where it is refused.
-fn taken(content: Content, bytes: &[u8], staged: &mut Store, program: &mut Program, line: &mut [u8]) -> Option<usize> {
+fn taken(
+    content: Content,
+    bytes: &[u8],
+    staged: &mut Store,
+    program: &mut Program,
+    line: &mut [u8],
+) -> Option<usize> {
     match content {
         Content::Card => match take_card(bytes, staged, program) {
             Ok(_) => None,

@@ -94,7 +94,10 @@ mod tests {
 
     #[test]
     fn states() -> Result<(), Fail> {
-        check_eq(refusal(b"LDN TRUE\nANDN TRUE\nORN TRUE\nST %M0\n"), (0, 0, 0))?;
+        check_eq(
+            refusal(b"LDN TRUE\nANDN TRUE\nORN TRUE\nST %M0\n"),
+            (0, 0, 0),
+        )?;
         check_eq(refusal(b"LD %I0\nST TRUE\n"), (13, 1, 7))?;
         check_eq(refusal(b"LD %I0\nST %I0\n"), (13, 1, 7))?;
         check_eq(refusal(b"LD %I0\n)\n"), (13, 1, 7))?;

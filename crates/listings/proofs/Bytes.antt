@@ -41,6 +41,7 @@ byte-splits byte (b ∷ bs) h = by (eqb b byte) (λ e. same b byte e) (byte-spli
   where
     same : (a b : ℕ) → eqb a b ≡ true → a ≡ b
     same a b e = grind (arith, tells)
+
     by : (t : Bool) → (t ≡ true → b ≡ byte) → (byteIn byte bs < length bs → bs ≡ take (byteIn byte bs) bs ++ byte ∷ drop (byteIn byte bs + 1) bs) → cond t 0 (1 + byteIn byte bs) < suc (length bs)
         → b ∷ bs ≡ take (cond t 0 (1 + byteIn byte bs)) (b ∷ bs) ++ byte ∷ drop (cond t 0 (1 + byteIn byte bs) + 1) (b ∷ bs)
     by true e f h = ap (λ c. c ∷ bs) (e refl)

@@ -59,6 +59,7 @@ written-on (word ∷ words) r q e h =
   where
     refused : {P : Type 0} (f : RuleFault) → led (Err f) words ≡ Ok q → P
     refused f e = let g = led-refused f words in let z : _≡_ {A = ℕ} 0 1 = cc in absurd (omega arith)
+
     stood : (i : Instruction) → instructionOf word ≡ Some i → (s : Result Place RuleFault) → step (r .place) i ≡ s → led s words ≡ Ok q → ((r′ : Reached) → led (Ok (r′ .place)) words ≡ Ok q → readFrom (Ok r′) (listing words) ≡ Ok (r′ .words ++ words))
         → readFrom (Ok r) (lineOf i ++ listing words) ≡ Ok (r .words ++ word ∷ words)
     stood i f (Err x) s e on = refused x e
@@ -69,6 +70,7 @@ written-on (word ∷ words) r q e h =
         ∙ ap (λ t. readFrom (readTo r (lineText i) t) (listing words)) (ap (lineLed (r .place)) says ∙ ap ruled s)
         ∙ on (further r (lineText i) p) e
         ∙ ap Ok (ap (λ l. (r .words ++ l) ++ words) one ∙ append-assoc (r .words) (word ∷ []) words)
+
     said : (o : Option Instruction) → instructionOf word ≡ o → led (stepIf (r .place) o) words ≡ Ok q → ((r′ : Reached) → led (Ok (r′ .place)) words ≡ Ok q → readFrom (Ok r′) (listing words) ≡ Ok (r′ .words ++ words))
         → readFrom (Ok r) (lineIf o ++ listing words) ≡ Ok (r .words ++ word ∷ words)
     said None f e on = refused _ e
@@ -81,6 +83,7 @@ written words = by (led (Ok start) words) refl
     end : (p : Place) (v : Result Unit RuleFault) → concluded p ≡ v → led (Ok start) words ≡ Ok p → accepted v ≡ true → verdict (listing words) ≡ Ok words
     end p (Ok u) c e k = written-on words begun p e c
     end p (Err f) c e k = let z : _≡_ {A = ℕ} 0 1 = cc in absurd (omega arith)
+
     by : (s : Result Place RuleFault) → led (Ok start) words ≡ s → accepted (judgedAt s) ≡ true → verdict (listing words) ≡ Ok words
     by (Ok p) e k = end p (concluded p) refl e k
     by (Err f) e k = let z : _≡_ {A = ℕ} 0 1 = cc in absurd (omega arith)
@@ -96,6 +99,7 @@ cut-joined (b ∷ bs) = by (eqb b 10) (ten b) (cut bs .lines) (cut bs .rest) (cu
   where
     ten : (b : ℕ) → eqb b 10 ≡ true → b ≡ 10
     ten b e = grind (arith, tells)
+
     by : (t : Bool) → (t ≡ true → b ≡ 10) → (ls : List (List ℕ)) (rest : List ℕ) → bs ≡ joined closed ls ++ rest → b ∷ bs ≡ joined closed (cutAt t b (record { lines = ls; rest = rest }) .lines) ++ cutAt t b (record { lines = ls; rest = rest }) .rest
     by true f ls rest e = (λ j. f refl j ∷ e j)
     by false f [] rest e = ap (λ l. b ∷ l) e
@@ -116,6 +120,7 @@ lined (l ∷ ls) r r′ e = said (lineRead l) refl e (λ r″ e′. lined ls r�
   where
     refused : {P : Type 0} (f : ListingFault) → readLines (Err f) ls ≡ Ok r′ → P
     refused f e = let g = lines-refused f ls in let z : _≡_ {A = ℕ} 0 1 = cc in absurd (omega arith)
+
     stood : (i : Instruction) → lineRead l ≡ Some i → (s : Result Place RuleFault) → step (r .place) i ≡ s → readLines (readTo r l (ruled s)) ls ≡ Ok r′ → ((r″ : Reached) → readLines (Ok r″) ls ≡ Ok r′ → Lined r″ ls r′) → Lined r (l ∷ ls) r′
     stood i f (Err x) s e on = refused _ e
     stood i f (Ok p) s e on =
@@ -129,6 +134,7 @@ lined (l ∷ ls) r r′ e = said (lineRead l) refl e (λ r″ e′. lined ls r�
           text = (λ j. line j ++ k .text j);
           place = ap (λ t. led t (k .more)) (ap (stepIf (r .place)) there ∙ s) ∙ k .place;
         }
+
     said : (o : Option Instruction) → lineRead l ≡ o → readLines (readTo r l (lineLed (r .place) o)) ls ≡ Ok r′ → ((r″ : Reached) → readLines (Ok r″) ls ≡ Ok r′ → Lined r″ ls r′) → Lined r (l ∷ ls) r′
     said None f e on = refused _ e
     said (Some i) f e on = stood i f (step (r .place) i) refl e on
@@ -141,9 +147,11 @@ read bytes words e = by (readLines (Ok begun) (cut bytes .lines)) (cut bytes .re
     end r (Err f) c k j e = let z : _≡_ {A = ℕ} 0 1 = cc in absurd (omega arith)
     end r (Ok u) c k j e =
         let q : r .words ≡ words = cc in
-        let w : k .more ≡ words = sym (k .words) ∙ q in
-        (j ∙ append-nil (joined closed (cut bytes .lines)) ∙ k .text ∙ ap listing w,
-         ap keeps (sym w) ∙ ap (λ s. accepted (judgedAt s)) (k .place) ∙ ap accepted c)
+        let w : k .more ≡ words = sym (k .words) ∙ q in (
+          j ∙ append-nil (joined closed (cut bytes .lines)) ∙ k .text ∙ ap listing w,
+          ap keeps (sym w) ∙ ap (λ s. accepted (judgedAt s)) (k .place) ∙ ap accepted c,
+        )
+
     by : (s : Result Reached ListingFault) (rest : List ℕ) → readLines (Ok begun) (cut bytes .lines) ≡ s → bytes ≡ joined closed (cut bytes .lines) ++ rest → ended s rest ≡ Ok words → (bytes ≡ listing words) × (keeps words ≡ true)
     by (Err f) rest s j e = let z : _≡_ {A = ℕ} 0 1 = cc in absurd (omega arith)
     by (Ok r) (b ∷ bs) s j e = let z : _≡_ {A = ℕ} 0 1 = cc in absurd (omega arith)

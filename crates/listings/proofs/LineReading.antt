@@ -146,6 +146,7 @@ line-back bs i e = by (ltb (byteIn 32 bs) (length bs)) (below (byteIn 32 bs) (le
   where
     below : (m n : ℕ) → ltb m n ≡ true → m < n
     below m n e = grind (arith, tells)
+
     parted : (name rest : List ℕ) (o : Option Operand) → operandRead rest ≡ o → bs ≡ name ++ 32 ∷ rest → spaced name o ≡ Some i → (bs ≡ lineText i) × Numbered (operand i)
     parted name rest None f p e = let z : _≡_ {A = ℕ} 0 1 = cc in absurd (omega arith)
     parted name rest (Some x) f p e =
@@ -154,12 +155,14 @@ line-back bs i e = by (ltb (byteIn 32 bs) (length bs)) (below (byteIn 32 bs) (le
         let o = operand-back rest x f in
         let sh : shown i ≡ Some x = s .1 ∙ ap (λ b. cond b None (Some x)) (j .1) in
         (p ∙ (λ k. s .0 k ++ 32 ∷ o .0 k) ∙ ap (λ y. mnemonic i ++ operandPart y) (sym sh), shown-numbered i x sh (o .1))
+
     whole : alone (named bs True) ≡ Some i → (bs ≡ lineText i) × Numbered (operand i)
     whole e =
         let j = alone-back (named bs True) i e in
         let s = named-back bs True i (j .0) in
         let sh : shown i ≡ None = s .1 ∙ ap (λ b. cond b None (Some True)) (j .1) in
         (s .0 ∙ sym (append-nil (mnemonic i)) ∙ ap (λ y. mnemonic i ++ operandPart y) (sym sh), bare-numbered i (j .1))
+
     by : (b : Bool) → (b ≡ true → byteIn 32 bs < length bs) → cond b (spaced (take (byteIn 32 bs) bs) (operandRead (drop (byteIn 32 bs + 1) bs))) (alone (named bs True)) ≡ Some i → (bs ≡ lineText i) × Numbered (operand i)
     by true f e = parted (take (byteIn 32 bs) bs) (drop (byteIn 32 bs + 1) bs) (operandRead (drop (byteIn 32 bs + 1) bs)) refl (byte-splits 32 bs (f refl)) e
     by false f e = whole e

@@ -46,8 +46,8 @@ next-read bytes before after byte line end h e l led words =
     let n : byte + (end + 1) ≡ byte + end + 1 = omega arith in
     let d : drop (end + 1) rest ≡ drop (byte + end + 1) bytes = drop-drop (end + 1) byte bytes ∙ ap (λ k. drop k bytes) n in
     let r : readOn (Ok (reached before byte line)) (take end rest) ≡ Ok (reached after (byte + end + 1) (line + 1)) =
-        ap (readTo (reached before byte line) (take end rest)) led
-        ∙ (λ j. Ok (record { place = standing after; words = sym words j; byte = byte + len j + 1; line = line + 1 })) in
+    ap (readTo (reached before byte line) (take end rest)) led
+    ∙ (λ j. Ok (record { place = standing after; words = sym words j; byte = byte + len j + 1; line = line + 1 })) in
     from-line (Ok (reached before byte line)) rest end e l ∙ (λ j. readFrom (r j) (d j))
 
 -- a line that is refused

@@ -47,6 +47,7 @@ operand-numbered a n x = by (ltb 255 n) (small n)
   where
     small : (n : ℕ) → ltb 255 n ≡ false → n < 256
     small n e = grind (arith, tells)
+
     by : (b : Bool) → (b ≡ false → n < 256) → cond b None (pointIn a n) ≡ Some x → Numbered x
     by true f e = none x e
     by false f e = pointed a n x (f refl) e
@@ -87,6 +88,7 @@ digits-lack = decimal-by-steps (λ n ds. lacks 10 ds ≡ true) one more
   where
     one : (n : ℕ) → n < 10 → lacks 10 ((48 + n) ∷ []) ≡ true
     one n h = grind (arith, tells)
+
     more : (n : ℕ) (ds : List ℕ) → 10 ≤ n → lacks 10 ds ≡ true → lacks 10 (ds ++ ((48 + n % 10) ∷ [])) ≡ true
     more n ds h e = lacks-append 10 ds ((48 + n % 10) ∷ []) e (grind (arith, tells))
 

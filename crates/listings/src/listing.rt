@@ -36,7 +36,10 @@ pub fn read(bytes: &[u8]) -> Result<Program, ListingFault>
 
 /// Reads a listing in place of a program, and answers rungs, words, greatest depth and the first rung with that depth.
 /// A refusal alters nothing.
-pub fn read_into(bytes: &[u8], program: &mut Program) -> Result<(usize, usize, usize, usize), ListingFault>
+pub fn read_into(
+    bytes: &[u8],
+    program: &mut Program,
+) -> Result<(usize, usize, usize, usize), ListingFault>
     ensures { λ r. ⌜ Replaced (now (bytes .entry)) (now (program .entry)) r (now (program .exit)) ⌝ }
 {
     match read(bytes) {
@@ -49,7 +52,12 @@ pub fn read_into(bytes: &[u8], program: &mut Program) -> Result<(usize, usize, u
 }
 
 /// Reads the line that starts at a byte, and answers where the next one starts.
-fn read_next(draft: &mut Draft, bytes: &[u8], byte: usize, line: usize) -> Result<usize, ListingFault>
+fn read_next(
+    draft: &mut Draft,
+    bytes: &[u8],
+    byte: usize,
+    line: usize,
+) -> Result<usize, ListingFault>
     requires { ⌜ byte < length (now bytes) ⌝ }
     ensures { λ r. ⌜ NextRead (now (bytes .entry)) (now (draft .entry)) byte line r (now (draft .exit)) ⌝ }
 {

@@ -43,15 +43,18 @@ best-more d f k n m x xs h g = by (ltb d m) (leb-tells (suc d) m)
   where
     top : (x′ : ℕ) → max n x ≡ x′ → best d f k (max n x ∷ xs) ≡ best d f k (x′ ∷ xs)
     top x′ e = ap (λ y. best d f k (y ∷ xs)) e
+
     new : d < m → (leb-tell : ((ltb m x ≡ true) × (m < x)) ⊎ ((ltb m x ≡ false) × (x < suc m))) → best m k k (x ∷ xs) ≡ best d f k (max n x ∷ xs)
     new l (inl t) = let lt : m < x = t .1 in best-over m k k x xs lt ∙ sym (best-over d f k x xs (omega arith)) ∙ sym (top x (omega arith))
     new l (inr t) =
         let le = t .1 in
         let e : m ≡ x = omega arith in
         best-under m k k x xs (omega arith) ∙ ap (λ y. best y k (suc k) xs) e ∙ sym (best-over d f k x xs (omega arith)) ∙ sym (top x (omega arith))
+
     old : m ≤ d → (leb-tell : ((ltb d x ≡ true) × (d < x)) ⊎ ((ltb d x ≡ false) × (x < suc d))) → best d f k (x ∷ xs) ≡ best d f k (max n x ∷ xs)
     old l (inl t) = let lt : d < x = t .1 in sym (top x (omega arith))
     old l (inr t) = let le = t .1 in best-under d f k x xs (omega arith) ∙ sym (best-under d f k (max n x) xs (omega arith))
+
     by : (b : Bool) → ((b ≡ true) × (d < m)) ⊎ ((b ≡ false) × (m < suc d)) → best (cond b m d) (cond b k f) k (x ∷ xs) ≡ best d f k (max n x ∷ xs)
     by true (inl t) = new (t .1) (leb-tells (suc m) x)
     by true (inr t) = absurd (true-false (t .0))

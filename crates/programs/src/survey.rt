@@ -43,7 +43,10 @@ impl Survey {
         ensures { λ r. ⌜ r ≡ seenAfter self (instructionOf word) ⌝ }
     {
         let instruction = Instruction::from_word(word);
-        self.at(brackets_after(self.brackets, instruction), starts_rung(self.brackets, instruction))
+        self.at(
+            brackets_after(self.brackets, instruction),
+            starts_rung(self.brackets, instruction),
+        )
     }
 
     /// A bracket before the first rung is no bracket of a rung.
@@ -53,7 +56,11 @@ impl Survey {
     {
         let rungs = if starts { self.rungs + 1 } else { self.rungs };
         if self.rungs == 0 || brackets <= self.depth {
-            return Survey { brackets, rungs, ..self };
+            return Survey {
+                brackets,
+                rungs,
+                ..self
+            };
         }
         Survey {
             brackets,

@@ -36,7 +36,6 @@ at f e Left = first (f Left) _ (second (f On) _ (second (f Off) _ e))
 at f e Right = first (f Right) _ (second (f Left) _ (second (f On) _ (second (f Off) _ e)))
 at f e Many = second (f Right) _ (second (f Left) _ (second (f On) _ (second (f Off) _ e)))
 
-
 same : (x y : Trial) → code x ≡ code y → x ≡ y
 same Off Off e = refl
 same Off On e = absurd (omega arith)

@@ -45,15 +45,30 @@ fn chosen(rt: &LibcRuntime) -> io::Result<Command> {
 }
 
 fn help(rt: &LibcRuntime) -> io::Result<()> {
-    println!(rt, "startline: ladder cards and listings of the signal mast")?;
+    println!(
+        rt,
+        "startline: ladder cards and listings of the signal mast"
+    )?;
     println!(rt, "")?;
     println!(rt, "  startline < CARD              translate a card")?;
-    println!(rt, "  startline listing < LISTING   read a listing and write it back")?;
+    println!(
+        rt,
+        "  startline listing < LISTING   read a listing and write it back"
+    )?;
     println!(rt, "  startline --help              print this")?;
     println!(rt, "")?;
-    println!(rt, "Prints `OK rungs words depth first` and the listing, and ends with status 0;")?;
-    println!(rt, "or, if the input is refused, `NO number rung bit` for a card and")?;
-    println!(rt, "`NO number line byte` for a listing, and ends with status 1.")
+    println!(
+        rt,
+        "Prints `OK rungs words depth first` and the listing, and ends with status 0;"
+    )?;
+    println!(
+        rt,
+        "or, if the input is refused, `NO number rung bit` for a card and"
+    )?;
+    println!(
+        rt,
+        "`NO number line byte` for a listing, and ends with status 1."
+    )
 }
 
 /// What ends the program with status 1.
@@ -62,7 +77,11 @@ fn failed() -> io::Error {
 }
 
 /// Prints the front of a buffer that a text was written into.
-fn print_front(rt: &LibcRuntime, written: Result<usize, ShortBuffer>, buffer: &[u8]) -> io::Result<()> {
+fn print_front(
+    rt: &LibcRuntime,
+    written: Result<usize, ShortBuffer>,
+    buffer: &[u8],
+) -> io::Result<()> {
     let Ok(len) = written else {
         return Err(failed());
     };

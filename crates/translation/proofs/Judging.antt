@@ -27,10 +27,10 @@ use Rattle.translation.specs.Faults.{inRung, atRung}
 use Rattle.translation.specs.Translation.{Translated}
 use Rattle.translation.specs.Judgement.{Verdict, unread, unfit, Judged, ended, trailed, misread, crossed, deep, long, taken, CardJudged, headless, headed, JudgedFrom, Stepped, Told}
 
-no-ok : {A E : Type 0} {x : A} {e : E} → _≡_ {A = Result A E} (Ok x) (Err e) → ⊥
+pub no-ok : {A E : Type 0} {x : A} {e : E} → _≡_ {A = Result A E} (Ok x) (Err e) → ⊥
 no-ok p = let z : _≡_ {A = ℕ} 0 1 = cc in omega arith
 
-no-err : {A E : Type 0} {x : A} {e : E} → _≡_ {A = Result A E} (Err e) (Ok x) → ⊥
+pub no-err : {A E : Type 0} {x : A} {e : E} → _≡_ {A = Result A E} (Err e) (Ok x) → ⊥
 no-err p = let z : _≡_ {A = ℕ} 0 1 = cc in omega arith
 
 -- the same verdict under other names

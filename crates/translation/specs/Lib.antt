@@ -3,3 +3,4 @@ pub mod Drafts
 pub mod Translation
 pub mod Faults
 pub mod Judgement
+pub mod Acceptance

@@ -4,5 +4,4 @@ ghost use Rattle.worked.specs.Examples.{WorkedExamples};
 /// What the definitions make of the worked cards, rungs and lines.
 pub fn worked_examples()
     ensures { λ _. ⌜ WorkedExamples ⌝ }
-{
-}
+{}

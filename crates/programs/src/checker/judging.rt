@@ -59,21 +59,36 @@ impl Checker {
         let brackets = self.brackets;
         let rungs = self.rungs;
         match (self.state, instruction) {
-            (State::Begun | State::Opened | State::Stored, Instruction::Load(_) | Instruction::LoadNot(_)) => {
-                self.enter(State::Joining, brackets, rungs_with(brackets, rungs))
-            }
+            (
+                State::Begun | State::Opened | State::Stored,
+                Instruction::Load(_) | Instruction::LoadNot(_),
+            ) => { self.enter(State::Joining, brackets, rungs_with(brackets, rungs)) }
             (
                 State::Joining | State::Stored,
-                Instruction::And(_) | Instruction::AndNot(_) | Instruction::Or(_) | Instruction::OrNot(_),
+                Instruction::And(_)
+                | Instruction::AndNot(_)
+                | Instruction::Or(_)
+                | Instruction::OrNot(_),
             ) => self.enter(State::Joining, brackets, rungs),
             (State::Joining | State::Stored, Instruction::AndOpen | Instruction::OrOpen) => {
                 self.enter(State::Opened, brackets + 1, rungs)
             }
-            (State::Joining, Instruction::Close) if brackets > 0 => self.enter(State::Joining, brackets - 1, rungs),
+            (State::Joining, Instruction::Close) if brackets > 0 => self.enter(
+                State::Joining,
+                brackets - 1,
+                rungs,
+            ),
             (
                 State::Joining | State::Stored,
-                Instruction::Store(_) | Instruction::StoreNot(_) | Instruction::Set(_) | Instruction::Reset(_),
-            ) if brackets == 0 && coil_drives(instruction) => self.enter(State::Stored, brackets, rungs),
+                Instruction::Store(_)
+                | Instruction::StoreNot(_)
+                | Instruction::Set(_)
+                | Instruction::Reset(_),
+            ) if brackets == 0 && coil_drives(instruction) => self.enter(
+                State::Stored,
+                brackets,
+                rungs,
+            ),
             _ => Err(RuleFault::NotAllowed),
         }
     }

@@ -10,9 +10,10 @@ returns-in-Ok c =
     let text = c .args .text .now in
     let i = c .in-Some .instruction in
     let d = c .args .draft .now in
-    let a = c .in-Ok .ensures tt in
-    (line-led text i (c .word .result) (standing d) (Ok (standing (c .add .last .self))) (c .in-Some .ensures tt) (c .word .ensures) (a .0),
-     a .1 ∙ ap (λ l. drafted d ++ l) (line-word text i (c .word .result) (c .in-Some .ensures tt) (c .word .ensures)))
+    let a = c .in-Ok .ensures tt in (
+      line-led text i (c .word .result) (standing d) (Ok (standing (c .add .last .self))) (c .in-Some .ensures tt) (c .word .ensures) (a .0),
+      a .1 ∙ ap (λ l. drafted d ++ l) (line-word text i (c .word .result) (c .in-Some .ensures tt) (c .word .ensures)),
+    )
 
 pub returns-in-Err : need.returns-in-Err
 returns-in-Err c =

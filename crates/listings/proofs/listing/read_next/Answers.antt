@@ -35,10 +35,12 @@ returns-in-Ok c =
     let p = c .pre in
     let z : end - 0 ≡ end = omega arith in
     let line : take (end - 0) (take (length bytes - byte) (drop byte bytes)) ≡ take end (drop byte bytes) = (λ j. take (z j) (whole j)) in
-    let a = c .in-Ok .ensures tt in
-    (next-read bytes d (c .add-line .last .draft) byte (c .args .line) end p (c .find-byte-end .ensures .value ∙ ap (byteIn 10) whole) (omega arith)
-      (ap (λ t. lineLed (standing d) (lineRead t)) (sym line) ∙ a .0) (a .1 ∙ ap (λ t. drafted d ++ lineWord (lineRead t)) line),
-     omega arith, omega arith)
+    let a = c .in-Ok .ensures tt in (
+      next-read bytes d (c .add-line .last .draft) byte (c .args .line) end p (c .find-byte-end .ensures .value ∙ ap (byteIn 10) whole) (omega arith)
+          (ap (λ t. lineLed (standing d) (lineRead t)) (sym line) ∙ a .0) (a .1 ∙ ap (λ t. drafted d ++ lineWord (lineRead t)) line),
+      omega arith,
+      omega arith,
+    )
 
 pub returns-in-Err : need.returns-in-Err
 returns-in-Err c =

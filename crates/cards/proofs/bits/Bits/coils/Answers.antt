@@ -15,8 +15,7 @@ pub loop-i-again : need.loop-i-again
 loop-i-again c =
     let i = c .loop-i .i in
     let at = c .args .self .now .at in
-    let is : coilAt (c .args .self .now .bytes .now) (at + 12 * i) ≡ _ = sym (rw (c .loop-i .inv .1, c .loop-i .inv .0) at (c .coil .ensures .value)) ∙ c .in-Continue-coil .was tt in
-    (
+    let is : coilAt (c .args .self .now .bytes .now) (at + 12 * i) ≡ _ = sym (rw (c .loop-i .inv .1, c .loop-i .inv .0) at (c .coil .ensures .value)) ∙ c .in-Continue-coil .was tt in (
       omega (arith, c .in-Continue-coil .ensures tt .after, c .loop-i .inv .0),
       c .coil .ensures .same ∙ c .loop-i .inv .1,
       filled-more (coilAt (c .args .self .now .bytes .now)) 12 (c .args .count) at i (c .loop-i .coils) (c .in-Continue-coil .coil) (omega arith) (omega arith) is (c .loop-i .inv .2),

@@ -15,8 +15,7 @@ pub loop-i-again : need.loop-i-again
 loop-i-again c =
     let i = c .loop-i .i in
     let at = c .args .self .now .at in
-    let is : linkAt (c .args .self .now .bytes .now) (c .args .joints) (at + 22 * i) ≡ _ = sym (rw (c .loop-i .inv .1, c .loop-i .inv .0) at (c .link .ensures .value)) ∙ c .in-Continue-link .was tt in
-    (
+    let is : linkAt (c .args .self .now .bytes .now) (c .args .joints) (at + 22 * i) ≡ _ = sym (rw (c .loop-i .inv .1, c .loop-i .inv .0) at (c .link .ensures .value)) ∙ c .in-Continue-link .was tt in (
       omega (arith, c .in-Continue-link .ensures tt .after, c .loop-i .inv .0),
       c .link .ensures .same ∙ c .loop-i .inv .1,
       filled-more (linkAt (c .args .self .now .bytes .now) (c .args .joints)) 22 (c .args .count) at i (c .loop-i .links) (c .in-Continue-link .link) (omega arith) (omega arith) is (c .loop-i .inv .2),

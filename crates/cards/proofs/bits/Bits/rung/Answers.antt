@@ -13,10 +13,28 @@ use Rattle.cards.proofs.bits.Bits.rung.Needs as need
 pub ghost-result : need.ghost-result
 ghost-result c =
     let n = c .in-Continue-sizes .sizes in
-    let k = sizes-counted (c .args .self .now .bytes .now) (c .args .self .now .at) n (sym (c .sizes .ensures .value) ∙ c .in-Continue-sizes .was tt) in
-    (k .two, (k .most, (k .some-link, (k .most-links, (k .some-coil, (k .most-coils, (
-      links-linked (n .links) (c .sizes .last .self .bytes .now) (n .joints) (c .sizes .last .self .at) (take (n .links) (c .links .last .links)) (c .in-Continue-links .ensures tt .value),
-      (coils-driven (n .coils) (c .links .last .self .bytes .now) (c .links .last .self .at) (take (n .coils) (c .coils .last .coils)) (c .in-Continue-coils .ensures tt .value), tt))))))))
+    let k = sizes-counted (c .args .self .now .bytes .now) (c .args .self .now .at) n (sym (c .sizes .ensures .value) ∙ c .in-Continue-sizes .was tt) in (
+      k .two,
+      (
+        k .most,
+        (
+          k .some-link,
+          (
+            k .most-links,
+            (
+              k .some-coil,
+              (
+                k .most-coils,
+                (
+                  links-linked (n .links) (c .sizes .last .self .bytes .now) (n .joints) (c .sizes .last .self .at) (take (n .links) (c .links .last .links)) (c .in-Continue-links .ensures tt .value),
+                  (coils-driven (n .coils) (c .links .last .self .bytes .now) (c .links .last .self .at) (take (n .coils) (c .coils .last .coils)) (c .in-Continue-coils .ensures tt .value), tt),
+                ),
+              ),
+            ),
+          ),
+        ),
+      ),
+    )
 
 pub returns : need.returns
 returns c =

@@ -14,9 +14,10 @@ pub ghost-self : need.ghost-self
 ghost-self c =
     let d = c .args .self .now in
     let p = placeOf (d .checker) in
-    let q = placeOf (c .args .checker) in
-    (leads-more (d .words) p q (c .args .word) (omega arith) (d .leads) (c .pre),
-     (ap (take (c .args .checker .rungs)) (c .note-start .ensures) ∙ starts-more (d .starts) (d .words) p q (c .args .word) (omega arith) (omega arith) (d .leads) (d .started) (c .pre), tt))
+    let q = placeOf (c .args .checker) in (
+      leads-more (d .words) p q (c .args .word) (omega arith) (d .leads) (c .pre),
+      (ap (take (c .args .checker .rungs)) (c .note-start .ensures) ∙ starts-more (d .starts) (d .words) p q (c .args .word) (omega arith) (omega arith) (d .leads) (d .started) (c .pre), tt),
+    )
 
 pub returns : need.returns
 returns c =

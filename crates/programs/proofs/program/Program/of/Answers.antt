@@ -26,9 +26,10 @@ pub loop-word-again : need.loop-word-again
 loop-word-again c =
     let words = c .args .words .now in
     let i = c .loop-word .word-index in
-    let a = c .in-Continue-add .ensures tt in
-    (led-more words i (standing (c .loop-word .draft)) (standing (c .add .last .self)) (omega arith) (c .loop-word .inv .0) (a .0),
-     a .1 ∙ ap (λ l. l ++ getD words i 0 ∷ []) (c .loop-word .inv .1) ∙ sym (take-more words i 0 (omega arith)))
+    let a = c .in-Continue-add .ensures tt in (
+      led-more words i (standing (c .loop-word .draft)) (standing (c .add .last .self)) (omega arith) (c .loop-word .inv .0) (a .0),
+      a .1 ∙ ap (λ l. l ++ getD words i 0 ∷ []) (c .loop-word .inv .1) ∙ sym (take-more words i 0 (omega arith)),
+    )
 
 pub returns : need.returns
 returns c =
