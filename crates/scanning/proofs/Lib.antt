@@ -1,0 +1,11 @@
+pub mod Running
+pub mod Texts
+pub mod Agreement
+pub mod Receiving
+pub mod Staying
+pub mod Piles
+pub mod Scans
+pub mod RuledOut
+pub mod Numbers
+pub mod CardRungs
+pub mod Fitting
