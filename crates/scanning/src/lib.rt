@@ -1,10 +1,10 @@
 //! Scans: what words make of the points, and that for the listings of rungs the paths make the same.
 mod aside;
 mod brackets;
+mod engine;
 mod fault;
 mod joining;
 mod program;
-mod engine;
 mod step;
 mod theorems;
 

@@ -10,8 +10,8 @@ ghost use Rattle.scanning.specs.ByPaths.{By-paths};
 ghost use Rattle.scanning.specs.Listings.{Listings, named};
 ghost use Rattle.scanning.specs.Machine.{scanned};
 ghost use Rattle.scanning.specs.Refusals.{Kept-unnamed};
-use super::fault::ScanFault;
 use super::engine::scan_words;
+use super::fault::ScanFault;
 use banks::Bank;
 use programs::Program;
 
