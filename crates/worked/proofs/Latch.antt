@@ -115,4 +115,7 @@ worked = record {
   detour-deep = refl;
   bridge-refused = worked-circuits .bridge-refused;
   or-m255 = refl;
+  ld-i255 = refl;
+  ld-i256 = refl;
+  ld-i256-number = refl;
 }

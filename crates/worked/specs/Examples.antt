@@ -3,6 +3,7 @@ use mathlib.Core.Path.{_≡_}
 use mathlib.Core.List.{List, [], _∷_, _++_, map}
 use Prim.Native.Nat.{ℕ}
 use lib.Chars.{codes}
+use Rattle.std.specs.declared.option.Option.the-variants.{Some}
 use Rattle.std.specs.declared.result.Result.the-variants.{Ok, Err}
 use Rattle.points.specs.declared.point.Area.the-variants.{Input, Output, Marker}
 use Rattle.points.specs.declared.point.Point.{Point}
@@ -20,6 +21,11 @@ use Rattle.instructions.specs.Depth.{depth}
 use Rattle.instructions.specs.Lines.{listing}
 use Rattle.instructions.specs.Reports.{statusLine, refusalLine}
 use Rattle.programs.specs.Counts.{counts}
+use Rattle.listings.specs.declared.fault.Cause.the-variants.{NotALine}
+use Rattle.listings.specs.declared.fault.ListingFault.{ListingFault}
+use Rattle.listings.specs.Faults.{faultNumber}
+use Rattle.listings.specs.LineReading.{lineRead}
+use Rattle.listings.specs.Reading.{verdict}
 use Rattle.cards.specs.declared.fault.CardCause.the-variants.{EndsEarly}
 use Rattle.cards.specs.Rungs.{faultAt, rungAt}
 use Rattle.translation.specs.declared.«ladder_fault».LadderFault.{LadderFault}
@@ -69,6 +75,10 @@ detourWords = words (Load (At (i 0)) ∷ AndOpen ∷ Load (At (i 1)) ∷ OrOpen 
 abbrev pub shortFault : LadderFault
 shortFault = unread (faultAt EndsEarly 8) 0
 
+-- a first line that is none
+abbrev pub strayFault : ListingFault
+strayFault = record { cause = NotALine; byte = 0; line = 0 }
+
 pub record WorkedExamples : Type 0 where
   -- the card draws the rung, is accepted with its words, and they are listed so
   pub latch-drawn : rungAt latchCard 8 ≡ Ok latch
@@ -89,3 +99,7 @@ pub record WorkedExamples : Type 0 where
   pub bridge-refused : Series-parallel bridge → ⊥
   -- the word of `OR %M255`
   pub or-m255 : wordOf (Or (At (m 255))) ≡ 0x4CFF
+  -- `LD %I255` is a line, and `LD %I256` is refused with 12
+  pub ld-i255 : lineRead (codes "LD %I255") ≡ Some (Load (At (i 255)))
+  pub ld-i256 : verdict (lines (codes "LD %I256" ∷ [])) ≡ Err strayFault
+  pub ld-i256-number : faultNumber strayFault ≡ 12
