@@ -76,20 +76,36 @@ mod tests {
         check_eq(refusal(&more), (10, 31, 187))
     }
 
+    // Each text is refused as no line, at its start.
+    fn no_line(texts: &[&[u8]]) -> Result<(), Fail> {
+        for text in texts {
+            check_eq(refusal(text), (12, 0, 0))?;
+        }
+        Ok(())
+    }
+
     #[test]
     fn no_lines() -> Result<(), Fail> {
         check_eq(refusal(b"LD %I255\nST %Q0\n"), (0, 0, 0))?;
-        check_eq(refusal(b"LD %I256\n"), (12, 0, 0))?;
-        check_eq(refusal(b"LD %I00\n"), (12, 0, 0))?;
-        check_eq(refusal(b"LD %I0"), (12, 0, 0))?;
-        check_eq(refusal(b"LD %I0\r\n"), (12, 0, 0))?;
-        check_eq(refusal(b"ld %I0\n"), (12, 0, 0))?;
-        check_eq(refusal(b"LD  %I0\n"), (12, 0, 0))?;
-        check_eq(refusal(b"LD %I0 \n"), (12, 0, 0))?;
-        check_eq(refusal(b") TRUE\n"), (12, 0, 0))?;
-        check_eq(refusal(b"LD\n"), (12, 0, 0))?;
-        check_eq(refusal(b"LD \0\n"), (12, 0, 0))?;
-        check_eq(refusal(b"\n"), (12, 0, 0))
+        no_line(
+            &[
+                b"LD %I256\n",
+                b"LD %I00\n",
+                b"LD %I0",
+                b"LD %I0\r\n",
+                b"ld %I0\n",
+            ],
+        )?;
+        no_line(
+            &[
+                b"LD  %I0\n",
+                b"LD %I0 \n",
+                b") TRUE\n",
+                b"LD\n",
+                b"LD \0\n",
+                b"\n",
+            ],
+        )
     }
 
     #[test]

@@ -164,3 +164,7 @@ listing-laws = record { written = written; read = read }
 pub exact : (bytes : List ℕ) (answer : Result Program ListingFault) → wordsIn answer ≡ verdict bytes → Exact bytes answer
 exact bytes (Ok p) e = read bytes (held p) (sym e)
 exact bytes (Err f) e = λ words k b. let w = written words k in let v = ap verdict b in let z : _≡_ {A = ℕ} 0 1 = cc in omega arith
+
+-- a refusal on the way is the verdict
+pub refused-value : (bytes : List ℕ) (answer : Result Program ListingFault) (e f : ListingFault) (now : Result (List ℕ) ListingFault) → answer ≡ Err e → e ≡ f → now ≡ Err f → now ≡ verdict bytes → wordsIn answer ≡ verdict bytes
+refused-value bytes answer e f now a b c d = ap wordsIn (a ∙ ap Err b) ∙ sym c ∙ d

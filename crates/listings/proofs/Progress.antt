@@ -33,8 +33,8 @@ line-onward text i p e = ap (stepIf p) (word-laws .there i (line-back text i e .
 pub line-led : (text : List ℕ) (i : Instruction) (word : ℕ) (p : Place) (to : Result Place RuleFault) → Some i ≡ lineRead text → word ≡ wordOf i → onward (Ok p) word ≡ to → lineLed p (lineRead text) ≡ ruled to
 line-led text i word p to e w o = ap (lineLed p) (sym e) ∙ ap ruled (sym (line-onward text i p (sym e)) ∙ ap (onward (Ok p)) (sym w) ∙ o)
 
-pub line-word : (text : List ℕ) (i : Instruction) (word : ℕ) → Some i ≡ lineRead text → word ≡ wordOf i → word ∷ [] ≡ lineWord (lineRead text)
-line-word text i word e w = ap (λ x. x ∷ []) w ∙ ap lineWord e
+pub line-drafted : (text : List ℕ) (i : Instruction) (word : ℕ) (before after : List ℕ) → Some i ≡ lineRead text → word ≡ wordOf i → after ≡ before ++ word ∷ [] → after ≡ before ++ lineWord (lineRead text)
+line-drafted text i word before after e w f = f ∙ ap (λ x. before ++ x ∷ []) w ∙ ap (λ o. before ++ lineWord o) e
 
 -- one line more
 pub next-read : (bytes : List ℕ) (before after : Draft) (byte line end : ℕ) → byte < length bytes → end ≡ byteIn 10 (drop byte bytes) → end < length (drop byte bytes) →

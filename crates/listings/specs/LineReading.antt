@@ -19,6 +19,7 @@ abbrev pub byteIn : ℕ → List ℕ → ℕ
 byteIn byte [] = 0
 byteIn byte (b ∷ bs) = cond (eqb b byte) 0 (1 + byteIn byte bs)
 
+-- an instruction if a name is its mnemonic, or else another
 abbrev pub either : List ℕ → List ℕ → Instruction → Option Instruction → Option Instruction
 either bs name i else = cond (sameBytes bs name) (Some i) else
 

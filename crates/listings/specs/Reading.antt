@@ -27,6 +27,7 @@ abbrev pub grown : ℕ → List (List ℕ) → List ℕ → Cut
 grown b [] rest = record { lines = []; rest = b ∷ rest }
 grown b (l ∷ ls) rest = record { lines = (b ∷ l) ∷ ls; rest = rest }
 
+-- a byte put before what follows it: byte 10 ends a line
 abbrev pub cutAt : Bool → ℕ → Cut → Cut
 cutAt true b c = record { lines = [] ∷ c .lines; rest = c .rest }
 cutAt false b c = grown b (c .lines) (c .rest)
@@ -47,6 +48,7 @@ pub record Reached : Type 0 where
 abbrev pub begun : Reached
 begun = record { place = start; words = []; byte = 0; line = 0 }
 
+-- the rules' verdict on an instruction, as that on its line
 abbrev pub ruled : Result Place RuleFault → Result Place Cause
 ruled (Ok p) = Ok p
 ruled (Err f) = Err (Broken f)

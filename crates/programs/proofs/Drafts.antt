@@ -8,7 +8,7 @@ use native.Mathlib.Omega.{arith}
 use lib.Dec.{ltb}
 use lib.ListN.{length, take, drop, getD, set}
 use Rattle.std.proofs.shelf.Ways.{tells}
-use Rattle.std.proofs.shelf.Lists.{append-nil, length-take-le, take-more-set, at-drop-more, at-drop-all}
+use Rattle.std.proofs.shelf.Lists.{append-nil, length-take-le, take-more, take-more-set, at-drop-more, at-drop-all}
 use Rattle.std.specs.declared.result.Result.the-variants.{Ok, Err}
 use Rattle.instructions.specs.Words.{instructionOf}
 use Rattle.programs.specs.Rules.{Place, start, onward, led, leadTo, concluded, judgedAt, judged}
@@ -68,3 +68,6 @@ judged-refused words i p fault h l e =
 
 pub judged-all : (words : List ℕ) (i : ℕ) (p : Place) → length words ≤ i → led (Ok p) (drop i words) ≡ led (Ok start) words → concluded p ≡ judged words
 judged-all words i p h l = ap judgedAt (sym (at-drop-all (led (Ok p)) words i h) ∙ l)
+
+pub taken-more : (words : List ℕ) (i : ℕ) (before after : List ℕ) → i < length words → before ≡ take i words → after ≡ before ++ getD words i 0 ∷ [] → after ≡ take (i + 1) words
+taken-more words i before after h e f = f ∙ ap (λ l. l ++ getD words i 0 ∷ []) e ∙ sym (take-more words i 0 h)

@@ -5,3 +5,4 @@ pub mod Counts
 pub mod Surveys
 pub mod Drafts
 pub mod Programs
+pub mod Passing

@@ -162,9 +162,11 @@ stateCode Opened = 1
 stateCode Joining = 2
 stateCode Stored = 3
 
+-- two places are the same
 abbrev pub samePlace : Place → Place → Bool
 samePlace p q = eqb (stateCode (p .state)) (stateCode (q .state)) && eqb (p .brackets) (q .brackets) && eqb (p .rungs) (q .rungs) && eqb (p .words) (q .words)
 
+-- the instructions were allowed, and lead to a place
 abbrev pub ledTo : Result Place RuleFault → Place → Bool
 ledTo (Ok q) p = samePlace q p
 ledTo (Err e) p = false
@@ -177,6 +179,7 @@ leadTo words p = ledTo (led (Ok start) words) p
 abbrev pub concluded : Place → Result Unit RuleFault
 concluded p = cond (ends (p .state)) (Ok tt) (Err Unfinished)
 
+-- the verdict, once it is known where words lead
 abbrev pub judgedAt : Result Place RuleFault → Result Unit RuleFault
 judgedAt (Ok p) = concluded p
 judgedAt (Err e) = Err e
@@ -185,6 +188,7 @@ judgedAt (Err e) = Err e
 abbrev pub judged : List ℕ → Result Unit RuleFault
 judged words = judgedAt (led (Ok start) words)
 
+-- a verdict that is no refusal
 abbrev pub accepted : {X : Type 0} → Result X RuleFault → Bool
 accepted (Ok x) = true
 accepted (Err e) = false

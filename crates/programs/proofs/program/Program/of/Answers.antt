@@ -1,15 +1,15 @@
 use mathlib.Core.Path.{_≡_, sym, ap, subst, _∙_}
-use mathlib.Core.List.{List, [], _∷_, _++_}
+use mathlib.Core.List.{List}
 use Prim.Native.Nat.{ℕ}
 use native.Mathlib.Omega.{arith}
-use lib.ListN.{length, getD}
-use Rattle.std.proofs.shelf.Lists.{take-more, take-all}
+use lib.ListN.{length}
+use Rattle.std.proofs.shelf.Lists.{take-all}
 use Rattle.std.proofs.shelf.Results.{err-from-errBy}
 use Rattle.std.specs.declared.result.Result.the-variants.{Ok, Err}
 use Rattle.programs.specs.Rules.{led, concluded, judged}
-use Rattle.programs.specs.Drafts.{standing}
+use Rattle.programs.specs.Drafts.{drafted, standing}
 use Rattle.programs.specs.Programs.{Taken}
-use Rattle.programs.proofs.Drafts.{led-more, judged-refused, judged-all}
+use Rattle.programs.proofs.Drafts.{led-more, taken-more, judged-refused, judged-all}
 use Rattle.programs.proofs.program.Program.of.Needs as need
 
 pub loop-word-holds : need.loop-word-holds
@@ -26,10 +26,10 @@ pub loop-word-again : need.loop-word-again
 loop-word-again c =
     let words = c .args .words .now in
     let i = c .loop-word .word-index in
-    let a = c .in-Continue-add .ensures tt in (
-      led-more words i (standing (c .loop-word .draft)) (standing (c .add .last .self)) (omega arith) (c .loop-word .inv .0) (a .0),
-      a .1 ∙ ap (λ l. l ++ getD words i 0 ∷ []) (c .loop-word .inv .1) ∙ sym (take-more words i 0 (omega arith)),
-    )
+    let before = c .loop-word .draft in
+    let after = c .add .last .self in
+    let a = c .in-Continue-add .ensures tt in
+    (led-more words i (standing before) (standing after) (omega arith) (c .loop-word .inv .0) (a .0), taken-more words i (drafted before) (drafted after) (omega arith) (c .loop-word .inv .1) (a .1))
 
 pub returns : need.returns
 returns c =
