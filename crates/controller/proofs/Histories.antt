@@ -6,13 +6,18 @@ use native.Mathlib.Omega.{arith}
 use lib.ListN.{length, take, drop, set, getD}
 use lib.Seq.{length-take-le, take-nil, drop-set-lt, drop-drop}
 use Rattle.std.proofs.shelf.Lists.{getD-map, length-map, take-all, take-more, take-more-set}
+use Rattle.std.specs.Results.{Cases}
+use Rattle.std.specs.declared.result.Result.{Result}
+use Rattle.std.specs.declared.result.Result.the-variants.{Ok, Err}
 use Rattle.signals.specs.Kind.{Kind}
+use Rattle.instructions.specs.declared.report.ShortBuffer.{ShortBuffer}
 use Rattle.controller.specs.declared.call.Call.{Call}
 use Rattle.controller.specs.declared.call.Answer.{Answer}
 use Rattle.controller.specs.declared.controller.Controller.{Controller}
 use Rattle.controller.specs.Promise.{State, Happens, Run, still, onwards}
 use Rattle.controller.specs.Runs.{Event, No-scan, Throughout}
-use Rattle.controller.specs.Standing.{Stands, Step, lending, paired, events-of, Ran, Lent, Performed}
+use Rattle.controller.specs.Standing.{Stands, Step, lending, paired, events-of, made, Ran, Lent, Performed, Performs, Declined, Operated}
+use Rattle.controller.proofs.Steps.{stands-same}
 use Rattle.controller.proofs.Laws.{run-program, run-points, run-bytes}
 
 run-push : {S : Type 0} (k : Kind S) (s t u : State S) (call : Call S) (answer : Answer S) (run : List (Event S)) → Run k s run t → Happens k t call answer u → Run k s (run ++ (call, answer) ∷ []) u
@@ -116,3 +121,11 @@ module _ {B S : Type 0} (k : Kind S) (points : B → List S) (c₀ : Controller 
         later = subst (λ (n : ℕ). drop n (after .answers) ≡ drop n (before .answers)) e (going .later);
         work-stays = λ h. going .work-stays (subst (Throughout No-scan) (sym all) h);
       }
+
+-- what was performed on the controller at its making
+pub operated : {B S U : Type 0} (k : Kind S) (points : B → List S) (making : List S) (calls : List (Call S)) (before after : Lent S) (c₀ c : Controller B S) (r : Result U ShortBuffer)
+    → Stands points c₀ (before .bytes) (made making (before .bytes))
+    → Cases r (λ _. Performs k points c₀ calls before after c) (λ _. Declined calls before after × (c ≡ c₀))
+    → Operated k points making calls before c r after
+operated k points making calls before after c₀ c (Ok u) st p = p (made making (before .bytes)) st
+operated k points making calls before after c₀ c (Err e) st d = (d .0, stands-same points c₀ c (before .bytes) (made making (before .bytes)) (d .1) st)

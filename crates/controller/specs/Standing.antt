@@ -100,6 +100,10 @@ pub record Lent (S : Type 0) : Type 0 where
   pub bytes : List ℕ
   pub answers : List (Answer S)
 
+-- the three together
+abbrev pub given : {S : Type 0} → List S → List ℕ → List (Answer S) → Lent S
+given work bytes answers = record { work = work; bytes = bytes; answers = answers }
+
 -- all calls were performed from a state: they ran, the answers past theirs stay, and without a scan that was not refused the working signals stay
 pub record Performed {B S : Type 0} (k : Kind S) (points : B → List S) (start : State S) (calls : List (Call S)) (before after : Lent S) (c : Controller B S) : Type 0 where
   pub room : length calls ≤ length (before .answers)
@@ -115,3 +119,8 @@ Performs {S = S} k points c calls before after c′ = (s : State S) → Stands p
 pub record Declined {S : Type 0} (calls : List (Call S)) (before after : Lent S) : Type 0 where
   pub few : length (before .answers) < length calls
   pub same : after ≡ before
+
+-- a controller was made over a bank of these points, and either all calls were performed, or nothing was and the answer refuses
+abbrev pub Operated : {B S U : Type 0} → Kind S → (B → List S) → List S → List (Call S) → Lent S → Controller B S → Result U ShortBuffer → Lent S → Type 0
+Operated k points making calls before c (Ok u) after = Performed k points (made making (before .bytes)) calls before after c
+Operated k points making calls before c (Err e) after = Declined calls before after × Stands points c (before .bytes) (made making (before .bytes))

@@ -120,6 +120,7 @@ impl<B: Bank> Controller<B> {
         ensures stays { λ _. ⌜ seat (now (self .exit) .bank) ≡ seat (now (self .entry) .bank) ⌝ }
         ensures untouched { λ _. ⌜ rest (now (self .exit) .bank) ≡ rest (now (self .entry) .bank) ⌝ }
     {
+        // The bank is tested before the working signals.
         if self.bank.count() < 768 {
             return Err(Refusal::SmallBank);
         }

@@ -5,7 +5,7 @@ ghost use lib.ListN.{length};
 ghost use Rattle.std.specs.Results.{Cases};
 ghost use Rattle.controller.specs.declared.call.Call.the-variants.{Scan, WriteListing, WriteStatus};
 ghost use Rattle.controller.specs.Runs.{No-scan};
-ghost use Rattle.controller.specs.Standing.{Stands, Step, Dry-step, lending, made, Performed, Performs, Declined};
+ghost use Rattle.controller.specs.Standing.{Step, Dry-step, lending, given, Performs, Declined, Operated};
 use super::call::Answer;
 use super::call::Call;
 use super::controller::Controller;
@@ -23,14 +23,7 @@ pub fn operate<B: Bank>(
     buffer: &mut [u8],
     answers: &mut [Answer<B::Kind>],
 ) -> (Controller<B>, Result<(), ShortBuffer>)
-    ensures run { λ r. ⌜ Cases (r .1)
-        (λ _. Performed (Kind·Signal .kind) points (made (points bank) (now (buffer .entry))) (now (calls .entry))
-        (record { work = now (work .entry); bytes = now (buffer .entry); answers = now (answers .entry) })
-        (record { work = now (work .exit); bytes = now (buffer .exit); answers = now (answers .exit) }) (r .0))
-        (λ _. Declined (now (calls .entry))
-        (record { work = now (work .entry); bytes = now (buffer .entry); answers = now (answers .entry) })
-        (record { work = now (work .exit); bytes = now (buffer .exit); answers = now (answers .exit) })
-        × Stands points (r .0) (now (buffer .entry)) (made (points bank) (now (buffer .entry)))) ⌝ }
+    ensures run { λ r. ⌜ Operated (Kind·Signal .kind) points (points bank) (now (calls .entry)) (given (now (work .entry)) (now (buffer .entry)) (now (answers .entry))) (r .0) (r .1) (given (now (work .exit)) (now (buffer .exit)) (now (answers .exit))) ⌝ }
     ensures stays { λ r. ⌜ seat (r .0 .bank) ≡ seat bank ⌝ }
     ensures untouched { λ r. ⌜ rest (r .0 .bank) ≡ rest bank ⌝ }
 {
@@ -50,11 +43,11 @@ impl<B: Bank> Controller<B> {
     ) -> Result<(), ShortBuffer>
         ensures run { λ r. ⌜ Cases r
             (λ _. Performs (Kind·Signal .kind) points (now (self .entry)) (now (calls .entry))
-            (record { work = now (work .entry); bytes = now (buffer .entry); answers = now (answers .entry) })
-            (record { work = now (work .exit); bytes = now (buffer .exit); answers = now (answers .exit) }) (now (self .exit)))
+            (given (now (work .entry)) (now (buffer .entry)) (now (answers .entry)))
+            (given (now (work .exit)) (now (buffer .exit)) (now (answers .exit))) (now (self .exit)))
             (λ _. Declined (now (calls .entry))
-            (record { work = now (work .entry); bytes = now (buffer .entry); answers = now (answers .entry) })
-            (record { work = now (work .exit); bytes = now (buffer .exit); answers = now (answers .exit) })
+            (given (now (work .entry)) (now (buffer .entry)) (now (answers .entry)))
+            (given (now (work .exit)) (now (buffer .exit)) (now (answers .exit)))
             × (now (self .exit) ≡ now (self .entry))) ⌝ }
         ensures stays { λ _. ⌜ seat (now (self .exit) .bank) ≡ seat (now (self .entry) .bank) ⌝ }
         ensures untouched { λ _. ⌜ rest (now (self .exit) .bank) ≡ rest (now (self .entry) .bank) ⌝ }
@@ -75,8 +68,8 @@ impl<B: Bank> Controller<B> {
     )
         requires { ⌜ length (now calls) ≤ length (now answers) ⌝ }
         ensures run { λ _. ⌜ Performs (Kind·Signal .kind) points (now (self .entry)) (now (calls .entry))
-            (record { work = now (work .entry); bytes = now (buffer .entry); answers = now (answers .entry) })
-            (record { work = now (work .exit); bytes = now (buffer .exit); answers = now (answers .exit) }) (now (self .exit)) ⌝ }
+            (given (now (work .entry)) (now (buffer .entry)) (now (answers .entry)))
+            (given (now (work .exit)) (now (buffer .exit)) (now (answers .exit))) (now (self .exit)) ⌝ }
         ensures stays { λ _. ⌜ seat (now (self .exit) .bank) ≡ seat (now (self .entry) .bank) ⌝ }
         ensures untouched { λ _. ⌜ rest (now (self .exit) .bank) ≡ rest (now (self .entry) .bank) ⌝ }
     {

@@ -1,11 +1,11 @@
 -- Reading and writing listings agree.
-use mathlib.Core.Path.{_≡_, refl, sym, ap, subst, _∙_}
-use mathlib.Core.Bool.{Bool, true, false, cond}
+use mathlib.Core.Path.{_≡_, refl, sym, ap, _∙_}
+use mathlib.Core.Bool.{Bool, true, false}
 use mathlib.Core.List.{List, [], _∷_, _++_}
-use Prim.Native.Nat.{ℕ, suc, _+_, _≤_, _<_}
+use Prim.Native.Nat.{ℕ, _+_}
 use native.Mathlib.Omega.{arith}
 use lib.Dec.{eqb}
-use lib.ListN.{length, take, drop}
+use lib.ListN.{length, drop}
 use Rattle.std.specs.Joined.{joined}
 use Rattle.std.proofs.shelf.Lists.{append-nil, append-assoc, length-append, take-at, drop-at}
 use Rattle.std.proofs.shelf.Ways.{tells}
@@ -20,17 +20,15 @@ use Rattle.instructions.proofs.Words.{word-laws}
 use Rattle.programs.specs.declared.fault.RuleFault.{RuleFault}
 use Rattle.programs.specs.declared.program.Program.{Program}
 use Rattle.programs.specs.Programs.{held}
-use Rattle.programs.specs.Rules.{Place, start, step, stepIf, onward, led, concluded, judgedAt, judged, accepted, keeps}
+use Rattle.programs.specs.Rules.{Place, start, step, stepIf, led, concluded, judgedAt, accepted, keeps}
 use Rattle.programs.proofs.Rules.{led-refused}
-use Rattle.listings.specs.declared.fault.Cause.{Cause}
-use Rattle.listings.specs.declared.fault.Cause.the-variants.{NotALine, Broken}
 use Rattle.listings.specs.declared.fault.ListingFault.{ListingFault}
-use Rattle.listings.specs.LineReading.{byteIn, lineRead}
-use Rattle.listings.specs.Reading.{Cut, grown, cutAt, cut, Reached, begun, ruled, lineLed, lineWord, refusedAt, readTo, readOn, readLines, endTo, ended, readFrom, verdict}
+use Rattle.listings.specs.LineReading.{lineRead}
+use Rattle.listings.specs.Reading.{cutAt, cut, Reached, begun, ruled, lineLed, lineWord, readTo, readOn, readLines, endTo, ended, readFrom, verdict}
 use Rattle.listings.specs.Answers.{wordsIn, Exact, ListingLaws}
 use Rattle.listings.proofs.Bytes.{byte-behind}
 use Rattle.listings.proofs.LineReading.{lineText, line-there, line-back}
-use Rattle.listings.proofs.Cuts.{from-line, lines-refused, from-refused}
+use Rattle.listings.proofs.Cuts.{from-line, lines-refused}
 use Rattle.listings.proofs.Words.{word-numbered, line-lacks, line-is}
 
 -- the verdict on a line of an instruction, and what follows it

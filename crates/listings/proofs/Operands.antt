@@ -3,11 +3,11 @@ use mathlib.Core.Path.{_≡_, refl, sym, ap, subst, _∙_}
 use mathlib.Core.Bool.{Bool, true, false, cond, _&&_}
 use mathlib.Core.List.{List, [], _∷_, _++_}
 use mathlib.Core.Logic.{_⊎_, inl, inr}
-use Prim.Native.Nat.{ℕ, suc, _+_, _-_, _*_, _/_, _%_, _^_, _≤_, _<_}
+use Prim.Native.Nat.{ℕ, suc, _+_, _-_, _*_, _/_, _%_, _≤_, _<_}
 use native.Mathlib.Omega.{arith}
 use lib.Chars.{codes}
-use lib.Dec.{eqb, leb, lit<}
-use lib.ListN.{length, getD, drop}
+use lib.Dec.{eqb, leb}
+use lib.ListN.{length}
 use Rattle.std.specs.Written.{decimal}
 use Rattle.std.proofs.shelf.Decimals.{decimal-digit, decimal-step}
 use Rattle.std.proofs.shelf.Equals.{text-from-reads}
@@ -16,12 +16,11 @@ use Rattle.std.specs.declared.option.Option.{Option}
 use Rattle.std.specs.declared.option.Option.the-variants.{Some, None}
 use Rattle.points.specs.declared.point.Area.{Area}
 use Rattle.points.specs.declared.point.Area.the-variants.{Input, Output, Marker}
-use Rattle.points.specs.declared.point.Point.{Point}
 use Rattle.instructions.specs.declared.instruction.Operand.{Operand}
 use Rattle.instructions.specs.declared.instruction.Operand.the-variants.{True, At}
 use Rattle.instructions.specs.Lines.{letter, operandText}
 use Rattle.instructions.specs.WordLaws.{Numbered}
-use Rattle.listings.specs.Operands.{areaRead, within, numberRead, pointRead, isTrue, marked, operandRead}
+use Rattle.listings.specs.Operands.{areaRead, numberRead, pointRead, isTrue, marked, operandRead}
 
 -- the digits of a number below 256
 one-digit : (n : ℕ) → n < 10 → decimal n ≡ (48 + n) ∷ []

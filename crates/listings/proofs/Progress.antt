@@ -1,29 +1,26 @@
 -- A listing read into a draft, line by line.
-use mathlib.Core.Path.{_≡_, refl, sym, ap, subst, _∙_}
+use mathlib.Core.Path.{_≡_, sym, ap, _∙_}
 use mathlib.Core.List.{List, [], _∷_, _++_}
-use Prim.Native.Nat.{ℕ, suc, _+_, _-_, _≤_, _<_}
+use Prim.Native.Nat.{ℕ, _+_, _-_, _≤_, _<_}
 use native.Mathlib.Omega.{arith}
 use lib.ListN.{length, take, drop}
-use Rattle.std.proofs.shelf.Lists.{length-take-le, length-drop, take-rest, drop-drop, drop-all}
-use Rattle.std.specs.declared.option.Option.{Option}
-use Rattle.std.specs.declared.option.Option.the-variants.{Some, None}
+use Rattle.std.proofs.shelf.Lists.{length-take-le, drop-drop, drop-all}
+use Rattle.std.specs.declared.option.Option.the-variants.{Some}
 use Rattle.std.specs.declared.result.Result.{Result}
 use Rattle.std.specs.declared.result.Result.the-variants.{Ok, Err}
 use Rattle.instructions.specs.declared.instruction.Instruction.{Instruction}
-use Rattle.instructions.specs.Words.{wordOf, instructionOf}
+use Rattle.instructions.specs.Words.{wordOf}
 use Rattle.instructions.proofs.Words.{word-laws}
 use Rattle.programs.specs.declared.draft.Draft.{Draft}
 use Rattle.programs.specs.declared.fault.RuleFault.{RuleFault}
 use Rattle.programs.specs.Rules.{Place, step, stepIf, onward, concluded}
 use Rattle.programs.specs.Drafts.{drafted, standing}
 use Rattle.listings.specs.declared.fault.Cause.{Cause}
-use Rattle.listings.specs.declared.fault.Cause.the-variants.{NotALine, Broken}
-use Rattle.listings.specs.declared.fault.ListingFault.{ListingFault}
 use Rattle.listings.specs.LineReading.{byteIn, lineRead}
 use Rattle.listings.specs.Reading.{Reached, ruled, lineLed, lineWord, refusedAt, readTo, readOn, readFrom, endTo}
 use Rattle.listings.specs.Progress.{reached}
 use Rattle.listings.proofs.LineReading.{line-back}
-use Rattle.listings.proofs.Cuts.{from-line, from-rest, from-refused}
+use Rattle.listings.proofs.Cuts.{from-line, from-refused}
 
 -- the word of a line that says an instruction stands for it
 pub line-onward : (text : List ℕ) (i : Instruction) (p : Place) → lineRead text ≡ Some i → onward (Ok p) (wordOf i) ≡ step p i

@@ -3,7 +3,7 @@ ghost use mathlib.Core.Path.{_≡_};
 ghost use Prim.Native.Nat.{_≤_};
 ghost use lib.ListN.{length};
 ghost use Rattle.std.specs.shelf.Text.{sameBytes};
-ghost use Rattle.listings.specs.LineReading.{byteIn, named, bare, alone, joinedBy, lineRead};
+ghost use Rattle.listings.specs.LineReading.{byteIn, named, alone, joinedBy, lineRead};
 use super::operand::read_operand;
 use instructions::Instruction;
 use instructions::Operand;

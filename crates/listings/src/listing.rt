@@ -1,6 +1,6 @@
 //! Reading a listing.
 ghost use mathlib.Core.Path.{_≡_};
-ghost use Prim.Native.Nat.{_<_, _≤_};
+ghost use Prim.Native.Nat.{_<_};
 ghost use lib.ListN.{length};
 ghost use Rattle.listings.specs.Reading.{verdict};
 ghost use Rattle.listings.specs.Progress.{LineAdded, NextRead};

@@ -1,9 +1,8 @@
 -- A word more of a draft.
-use mathlib.Core.Path.{_≡_, refl, sym, ap, subst, _∙_}
+use mathlib.Core.Path.{_≡_, sym, ap, _∙_}
 use mathlib.Core.Bool.{Bool, true, false, cond}
 use mathlib.Core.List.{List, [], _∷_, _++_}
 use Prim.Native.Nat.{ℕ, _+_, _≤_, _<_}
-use native.Mathlib.Nat.{zero-add}
 use native.Mathlib.Omega.{arith}
 use lib.Dec.{ltb}
 use lib.ListN.{length, take, drop, getD, set}
@@ -13,8 +12,8 @@ use Rattle.std.specs.declared.result.Result.the-variants.{Ok, Err}
 use Rattle.instructions.specs.Words.{instructionOf}
 use Rattle.programs.specs.Rules.{Place, start, onward, led, leadTo, concluded, judgedAt, judged}
 use Rattle.programs.specs.declared.fault.RuleFault.{RuleFault}
-use Rattle.programs.specs.Counts.{startsIf, startAt, startsFrom, startsOf}
-use Rattle.programs.proofs.Rules.{led-append, led-refused, led-from-leads, leads-from-led, stepped, passed, opens, starts-push}
+use Rattle.programs.specs.Counts.{startsIf, startAt, startsOf}
+use Rattle.programs.proofs.Rules.{led-append, led-refused, led-from-leads, leads-from-led, stepped, passed, starts-push}
 
 -- the words with one more
 pub words-more : (words : List ℕ) (p q : Place) (word : ℕ) → length words ≡ 4096 → onward (Ok p) word ≡ Ok q → take (q .words) (set words (p .words) word) ≡ take (p .words) words ++ word ∷ []

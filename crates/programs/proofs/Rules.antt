@@ -1,5 +1,5 @@
 -- Words led through the rules, one after the other.
-use mathlib.Core.Path.{_≡_, refl, sym, ap, subst, _∙_}
+use mathlib.Core.Path.{_≡_, refl, sym, ap, _∙_}
 use mathlib.Core.Bool.{Bool, true, false, cond}
 use mathlib.Core.List.{List, [], _∷_, _++_}
 use Prim.Native.Nat.{ℕ, suc, _+_, _≤_, _<_}
@@ -19,9 +19,9 @@ use Rattle.instructions.specs.Depth.{opened, openedIf}
 use Rattle.programs.specs.declared.checker.State.{State}
 use Rattle.programs.specs.declared.checker.State.the-variants.{Begun, Opened, Joining, Stored}
 use Rattle.programs.specs.declared.fault.RuleFault.{RuleFault}
-use Rattle.programs.specs.declared.fault.RuleFault.the-variants.{NotAllowed, TooDeep, TooManyRungs, TooLong}
-use Rattle.programs.specs.Rules.{Place, start, next, startsRung, counted, stepTo, step, stepIf, onward, led, stateCode, samePlace, ledTo, leadTo, concluded, judgedAt, judged, accepted, keeps}
-use Rattle.programs.specs.Counts.{startsIf, openAfter, startAt, startsFrom, startsOf}
+use Rattle.programs.specs.declared.fault.RuleFault.the-variants.{TooDeep, TooManyRungs, TooLong}
+use Rattle.programs.specs.Rules.{Place, start, next, startsRung, counted, stepTo, stepIf, onward, led, stateCode, samePlace, ledTo, leadTo, concluded, judgedAt, accepted, keeps}
+use Rattle.programs.specs.Counts.{startsIf, openAfter, startAt, startsFrom}
 
 -- words after words
 pub led-append : (now : Result Place RuleFault) (xs ys : List ℕ) → led now (xs ++ ys) ≡ led (led now xs) ys

@@ -1,5 +1,5 @@
 -- Words behind words: what they lead to, count and start, and a rung behind a program.
-use mathlib.Core.Path.{_≡_, refl, sym, ap, subst, _∙_}
+use mathlib.Core.Path.{_≡_, refl, sym, ap, _∙_}
 use mathlib.Core.Bool.{Bool, true, false, cond, _&&_}
 use mathlib.Core.List.{List, [], _∷_, _++_}
 use Prim.Native.Nat.{ℕ, suc, _+_, _≤_, _<_, max}
@@ -8,7 +8,7 @@ use native.Mathlib.Omega.{arith}
 use lib.Dec.{eqb, ltb}
 use lib.ListN.{length}
 use Rattle.std.proofs.shelf.Ways.{tells}
-use Rattle.std.proofs.shelf.Lists.{append-nil, append-assoc, length-append}
+use Rattle.std.proofs.shelf.Lists.{append-assoc}
 use Rattle.std.specs.declared.option.Option.{Option}
 use Rattle.std.specs.declared.option.Option.the-variants.{Some, None}
 use Rattle.std.specs.declared.result.Result.{Result}
@@ -22,10 +22,10 @@ use Rattle.programs.specs.declared.checker.State.{State}
 use Rattle.programs.specs.declared.checker.State.the-variants.{Begun, Opened, Joining, Stored}
 use Rattle.programs.specs.declared.fault.RuleFault.{RuleFault}
 use Rattle.programs.specs.declared.fault.RuleFault.the-variants.{TooDeep, TooManyRungs, TooLong, Unfinished}
-use Rattle.programs.specs.Rules.{Place, start, loads, joins, ends, drives, when, next, startsRung, counted, stepTo, step, stepIf, onward, led, concluded, judgedAt, judged, accepted, keeps}
-use Rattle.programs.specs.Counts.{startsIf, openAfter, startAt, startsFrom, startsOf, Cut, cutAt, cut, rungsOf}
+use Rattle.programs.specs.Rules.{Place, start, loads, joins, ends, drives, when, next, startsRung, counted, stepTo, stepIf, onward, led, judgedAt, accepted, keeps}
+use Rattle.programs.specs.Counts.{startsIf, openAfter, startAt, startsFrom, Cut, cutAt, cut, rungsOf}
 use Rattle.programs.specs.Passing.{passTo, pass, passes, Standing, RuleLaws}
-use Rattle.programs.proofs.Rules.{led-append, led-refused, keeps-append, opens, passed, Stepped, stepped}
+use Rattle.programs.proofs.Rules.{led-refused, keeps-append, opens, passed, Stepped, stepped}
 
 -- how many rungs words start
 abbrev pub started : ℕ → List ℕ → ℕ

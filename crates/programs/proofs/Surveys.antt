@@ -1,7 +1,7 @@
 -- One pass over words finds the rungs and the deepest of them.
 use mathlib.Core.Path.{_≡_, refl, sym, ap, subst, _∙_}
 use mathlib.Core.Bool.{Bool, true, false, cond, _&&_}
-use mathlib.Core.List.{List, [], _∷_, _++_, map}
+use mathlib.Core.List.{List, [], _∷_, map}
 use mathlib.Core.Logic.{_⊎_, inl, inr}
 use Prim.Native.Nat.{ℕ, zero, suc, _+_, _-_, _≤_, _<_, max}
 use native.Mathlib.Numerals.{add-one}
@@ -10,18 +10,17 @@ use native.Mathlib.Omega.{arith}
 use lib.Dec.{eqb, ltb}
 use lib.ListN.{length, drop, getD}
 use Rattle.std.proofs.shelf.Lists.{at-drop-more, at-drop-all}
-use Rattle.std.proofs.shelf.Ways.{tells, leb-tells, eqb-tells}
+use Rattle.std.proofs.shelf.Ways.{tells, leb-tells}
 use Rattle.std.specs.declared.option.Option.{Option}
 use Rattle.std.specs.declared.option.Option.the-variants.{Some, None}
 use Rattle.instructions.specs.declared.instruction.Instruction.{Instruction}
 use Rattle.instructions.specs.declared.instruction.Instruction.the-variants.{Load, LoadNot, And, AndNot, Or, OrNot, AndOpen, OrOpen, Close, Store, StoreNot, Set, Reset}
 use Rattle.instructions.specs.Words.{instructionOf}
-use Rattle.instructions.specs.Depth.{opened, openedIf, deepest, depth}
+use Rattle.instructions.specs.Depth.{openedIf, deepest, depth}
 use Rattle.instructions.proofs.Deepest.{deepest-from}
 use Rattle.programs.specs.declared.survey.Survey.{Survey}
-use Rattle.programs.specs.Rules.{startsRung}
 use Rattle.programs.specs.Counts.{startsIf, openAfter, Cut, cutAt, cut, rungsOf, greatest, placeIn, depths, counts}
-use Rattle.programs.specs.Surveys.{deeper, seenAt, seenAfter}
+use Rattle.programs.specs.Surveys.{seenAfter}
 
 true-false : true ≡ false → ⊥
 true-false e = let z : _≡_ {A = ℕ} 0 1 = cc in omega arith

@@ -102,10 +102,10 @@ next s n (OrNot x) = when (joins s) Joining
 next s n AndOpen = when (joins s) Opened
 next s n OrOpen = when (joins s) Opened
 next s n Close = when (closes s && ltb 0 n) Joining
-next s n (Store x) = when (joins s && eqb n 0 && coilDrives (Store x)) Stored
-next s n (StoreNot x) = when (joins s && eqb n 0 && coilDrives (StoreNot x)) Stored
-next s n (Set x) = when (joins s && eqb n 0 && coilDrives (Set x)) Stored
-next s n (Reset x) = when (joins s && eqb n 0 && coilDrives (Reset x)) Stored
+next s n (Store x) = when (joins s && eqb n 0 && drives x) Stored
+next s n (StoreNot x) = when (joins s && eqb n 0 && drives x) Stored
+next s n (Set x) = when (joins s && eqb n 0 && drives x) Stored
+next s n (Reset x) = when (joins s && eqb n 0 && drives x) Stored
 
 -- a rung starts at each load with no bracket open
 abbrev pub startsRung : ℕ → Instruction → Bool

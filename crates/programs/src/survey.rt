@@ -1,7 +1,6 @@
 //! How many rungs words have, and how deep their brackets go.
 ghost use mathlib.Core.Path.{_≡_};
-ghost use Prim.Native.Nat.{_+_, _≤_, _<_, _^_};
-ghost use lib.ListN.{length};
+ghost use Prim.Native.Nat.{_+_, _<_, _^_};
 ghost use Rattle.instructions.specs.Words.{instructionOf};
 ghost use Rattle.instructions.specs.Depth.{openedIf};
 ghost use Rattle.programs.specs.Counts.{startsIf, counts as countsOf};

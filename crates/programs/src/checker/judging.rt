@@ -3,7 +3,7 @@ ghost use mathlib.Core.Path.{_≡_};
 ghost use Prim.Native.Nat.{_+_, _-_, _≤_};
 ghost use lib.Dec.{eqb};
 ghost use mathlib.Core.Bool.{cond};
-ghost use Rattle.programs.specs.Rules.{start, drives, coilDrives, ends, counted, step, verdict, after, concluded};
+ghost use Rattle.programs.specs.Rules.{start, drives, coilDrives, counted, step, verdict, after, concluded};
 ghost use Rattle.programs.specs.Places.{placeOf};
 use super::Checker;
 use super::State;

@@ -1,5 +1,4 @@
 //! How words become a program.
-ghost use mathlib.Core.Path.{_≡_};
 ghost use Rattle.programs.specs.Rules.{concluded, judged};
 ghost use Rattle.programs.specs.Drafts.{drafted, standing};
 ghost use Rattle.programs.specs.Programs.{Taken, Replaced};

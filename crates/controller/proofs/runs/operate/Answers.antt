@@ -1,6 +1,5 @@
 use mathlib.Core.Path.{ap, _∙_}
-use Rattle.std.proofs.shelf.Results.{cases-weaker}
-use Rattle.controller.proofs.Steps.{stands-same}
+use Rattle.controller.proofs.Histories.{operated}
 use Rattle.controller.proofs.runs.operate.Needs as need
 
 pub returns : need.returns
@@ -8,7 +7,7 @@ returns g c =
     let h = c .perform-performed .ensures in
     let m = c .make-controller .ensures in
     record {
-      run = cases-weaker (c .perform-performed .result) (h .run) (λ _ p. p _ (m .stands (c .args .buffer .now))) (λ _ d. (d .0, stands-same _ _ _ _ _ (d .1) (m .stands (c .args .buffer .now))));
+      run = operated _ _ _ _ _ _ _ _ (c .perform-performed .result) (m .stands (c .args .buffer .now)) (h .run);
       stays = h .stays ∙ ap (g .B·Bank .seat) (m .same);
       untouched = h .untouched ∙ ap (g .B·Bank .rest) (m .same);
     }

@@ -1,8 +1,7 @@
-use mathlib.Core.Path.{_≡_, refl, sym, ap, _∙_}
+use mathlib.Core.Path.{refl, ap, _∙_}
 use native.Mathlib.Omega.{arith}
-use lib.ListN.{take, length}
+use lib.ListN.{take}
 use Rattle.programs.specs.Places.{placeOf}
-use Rattle.programs.specs.Counts.{startsOf}
 use Rattle.programs.proofs.Rules.{stepped}
 use Rattle.programs.proofs.Drafts.{words-more, leads-more, starts-more}
 use Rattle.programs.proofs.draft.Draft.enter.Needs as need
