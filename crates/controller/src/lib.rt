@@ -13,4 +13,5 @@ pub use install_fault::InstallFromCard;
 pub use install_fault::InstallFromListing;
 pub use refusal::Refusal;
 pub use refusal::RefusalFromScan;
+pub use runs::Outcome;
 pub use runs::operate;

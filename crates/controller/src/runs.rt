@@ -12,6 +12,13 @@ use super::controller::Controller;
 use banks::Bank;
 use instructions::ShortBuffer;
 
+/// The controller after a run, and whether its calls were performed.
+#[derive(Drop)]
+pub struct Outcome<B: Bank> {
+    pub controller: Controller<B>,
+    pub performed: Result<(), ShortBuffer>,
+}
+
 /// Makes a controller from a bank, performs the calls in order, and leaves their answers.
 ///
 /// A scan is lent as many of the working signals as its call says, or all that there are; a writing is lent as many of
@@ -22,14 +29,17 @@ pub fn operate<B: Bank>(
     work: &mut [B::Kind],
     buffer: &mut [u8],
     answers: &mut [Answer<B::Kind>],
-) -> (Controller<B>, Result<(), ShortBuffer>)
-    ensures run { λ r. ⌜ Operated (Kind·Signal .kind) points (points bank) (now (calls .entry)) (given (now (work .entry)) (now (buffer .entry)) (now (answers .entry))) (r .0) (r .1) (given (now (work .exit)) (now (buffer .exit)) (now (answers .exit))) ⌝ }
-    ensures stays { λ r. ⌜ seat (r .0 .bank) ≡ seat bank ⌝ }
-    ensures untouched { λ r. ⌜ rest (r .0 .bank) ≡ rest bank ⌝ }
+) -> Outcome<B>
+    ensures run { λ r. ⌜ Operated (Kind·Signal .kind) points (points bank) (now (calls .entry)) (given (now (work .entry)) (now (buffer .entry)) (now (answers .entry))) (r .controller) (r .performed) (given (now (work .exit)) (now (buffer .exit)) (now (answers .exit))) ⌝ }
+    ensures stays { λ r. ⌜ seat (r .controller .bank) ≡ seat bank ⌝ }
+    ensures untouched { λ r. ⌜ rest (r .controller .bank) ≡ rest bank ⌝ }
 {
     let mut controller = Controller::make(bank);
     let performed = controller.perform(calls, work, buffer, answers);
-    (controller, performed)
+    Outcome {
+        controller,
+        performed,
+    }
 }
 
 impl<B: Bank> Controller<B> {
