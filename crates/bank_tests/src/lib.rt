@@ -1,4 +1,6 @@
 //! Piles of layers over the open and the packed bank, and small examples of each bank.
+#![tactic(auto)]
+
 mod piles;
 #[cfg(test)]
 mod tests;

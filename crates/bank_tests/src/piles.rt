@@ -14,9 +14,9 @@ pub fn strip_over_board<B: Bank>(
     other: usize,
     signal: B::Kind,
 ) -> (Option<B::Kind>, B)
-    ensures back { result.0 ≡ read_back (points bank) input signal }
-    ensures stays { seat result.1 ≡ seat bank }
-    ensures untouched { rest result.1 ≡ rest bank }
+    ensures back { result.0 ≡ read_back (B.points bank) input signal }
+    ensures stays { B.seat result.1 ≡ B.seat bank }
+    ensures untouched { B.rest result.1 ≡ B.rest bank }
 {
     let mut board = PatchBoard::over(bank);
     let _ = board.exchange(input, other);
@@ -33,9 +33,9 @@ pub fn board_over_strip<B: Bank>(
     other: usize,
     signal: B::Kind,
 ) -> (Option<B::Kind>, B)
-    ensures back { result.0 ≡ read_back (points bank) input signal }
-    ensures stays { seat result.1 ≡ seat bank }
-    ensures untouched { rest result.1 ≡ rest bank }
+    ensures back { result.0 ≡ read_back (B.points bank) input signal }
+    ensures stays { B.seat result.1 ≡ B.seat bank }
+    ensures untouched { B.rest result.1 ≡ B.rest bank }
 {
     let mut strip = Strip::over(bank);
     let _ = strip.mark(other, true);
@@ -47,7 +47,7 @@ pub fn board_over_strip<B: Bank>(
 
 /// Reads a point of a bank through two strips with the same mark.
 pub fn strip_over_strip<B: Bank + Drop>(bank: B, input: usize, index: usize) -> Option<B::Kind>
-    ensures { result ≡ slice_get (points bank) index }
+    ensures { result ≡ slice_get (B.points bank) index }
 {
     mark_on_both(bank, input).read(index)
 }

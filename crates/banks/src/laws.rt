@@ -12,11 +12,11 @@ use crate::strip::Strip;
 
 /// What is written to a point is read back, and every other point stays.
 pub fn write_and_read<B: Bank>(bank: &mut B, index: usize, signal: B::Kind) -> Option<B::Kind>
-    ensures back { result ≡ read_back (points bank.old) index signal }
-    ensures elsewhere { Elsewhere index (points bank.old) (points bank.new) }
-    ensures count { length (points bank.new) ≡ length (points bank.old) }
-    ensures stays { seat bank.new ≡ seat bank.old }
-    ensures untouched { rest bank.new ≡ rest bank.old }
+    ensures back { result ≡ read_back (B.points bank.old) index signal }
+    ensures elsewhere { Elsewhere index (B.points bank.old) (B.points bank.new) }
+    ensures count { length (B.points bank.new) ≡ length (B.points bank.old) }
+    ensures stays { B.seat bank.new ≡ B.seat bank.old }
+    ensures untouched { B.rest bank.new ≡ B.rest bank.old }
 {
     let _ = bank.write(index, signal);
     bank.read(index)
@@ -56,7 +56,7 @@ pub fn mark_on_both<B: Bank>(bank: B, input: usize) -> Strip<Strip<B>>
     ensures below { result.bank.bank ≡ bank }
     ensures upper { result.marks ≡ slice_set (replicate 256 false) input true }
     ensures lower { result.bank.marks ≡ slice_set (replicate 256 false) input true }
-    ensures shows { strip_shows B.Kind.Signal.kind (strip_shows B.Kind.Signal.kind points) result ≡ points bank }
+    ensures shows { strip_shows B.Kind.Signal.kind (strip_shows B.Kind.Signal.kind B.points) result ≡ B.points bank }
 {
     let mut lower = Strip::over(bank);
     let _ = lower.mark(input, true);
@@ -70,7 +70,7 @@ pub fn exchange_twice<B: Bank>(board: &mut PatchBoard<B>, a: usize, b: usize) ->
     ensures told { result ≡ answered (inputs a b) }
     ensures below { board.new.bank ≡ board.old.bank }
     ensures restored { board.new.table.to ≡ board.old.table.to }
-    ensures shows { board_shows B.Kind.Signal.kind points board.new ≡ board_shows B.Kind.Signal.kind points board.old }
+    ensures shows { board_shows B.Kind.Signal.kind B.points board.new ≡ board_shows B.Kind.Signal.kind B.points board.old }
 {
     let _ = board.exchange(a, b);
     board.exchange(a, b)

@@ -1,4 +1,6 @@
 //! Banks of points: where signals are kept, and the layers that stand on a bank.
+#![tactic(auto)]
+
 mod bank;
 mod laws;
 mod open;

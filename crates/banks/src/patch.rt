@@ -25,7 +25,7 @@ impl<B: Bank> PatchBoard<B> {
     pub fn over(bank: B) -> PatchBoard<B>
         ensures below { result.bank ≡ bank }
         ensures straight { Straight result.table.to }
-        ensures shows { board_shows B.Kind.Signal.kind points result ≡ points bank }
+        ensures shows { board_shows B.Kind.Signal.kind B.points result ≡ B.points bank }
     {
         let table = Table::straight();
         PatchBoard { bank, table }
@@ -59,7 +59,7 @@ impl<B: Bank> PatchBoard<B> {
         ensures told { result ≡ answered (inputs a b) }
         ensures below { self.new.bank ≡ self.old.bank }
         ensures swaps { self.new.table.to ≡ rewired self.old.table.to a b }
-        ensures shows { board_shows B.Kind.Signal.kind points self.new ≡ repatched B.Kind.Signal.kind (board_shows B.Kind.Signal.kind points self.old) a b }
+        ensures shows { board_shows B.Kind.Signal.kind B.points self.new ≡ repatched B.Kind.Signal.kind (board_shows B.Kind.Signal.kind B.points self.old) a b }
     {
         if a < 256 && b < 256 {
             self.table.exchange(a as u8, b as u8);

@@ -30,7 +30,7 @@ fn mark_of(marks: &[bool; 256], index: usize) -> bool
 
 /// A signal on its way past the mark of a point, if it has one.
 fn past_mark<S: Signal>(marks: &[bool; 256], index: usize, signal: S) -> S
-    ensures { result ≡ past kind (slice_index_or marks.now index false) signal }
+    ensures { result ≡ past S.kind (slice_index_or marks.now index false) signal }
 {
     if mark_of(marks, index) {
         signal.inverse()
@@ -44,7 +44,7 @@ impl<B: Bank> Strip<B> {
     pub fn over(bank: B) -> Strip<B>
         ensures below { result.bank ≡ bank }
         ensures unmarked { result.marks ≡ replicate 256 false }
-        ensures shows { strip_shows B.Kind.Signal.kind points result ≡ points bank }
+        ensures shows { strip_shows B.Kind.Signal.kind B.points result ≡ B.points bank }
     {
         Strip {
             bank,
@@ -87,8 +87,8 @@ impl<B: Bank> Strip<B> {
         ensures told { result ≡ answered (nat_lt input 256) }
         ensures below { self.new.bank ≡ self.old.bank }
         ensures marked { self.new.marks ≡ slice_set self.old.marks input inverted }
-        ensures here { input < 256 → slice_get (strip_shows B.Kind.Signal.kind points self.new) input ≡ option_map (past B.Kind.Signal.kind inverted) (slice_get (points self.old.bank) input) }
-        ensures elsewhere { Elsewhere input (strip_shows B.Kind.Signal.kind points self.old) (strip_shows B.Kind.Signal.kind points self.new) }
+        ensures here { input < 256 → slice_get (strip_shows B.Kind.Signal.kind B.points self.new) input ≡ option_map (past B.Kind.Signal.kind inverted) (slice_get (B.points self.old.bank) input) }
+        ensures elsewhere { Elsewhere input (strip_shows B.Kind.Signal.kind B.points self.old) (strip_shows B.Kind.Signal.kind B.points self.new) }
     {
         if input < 256 {
             self.marks[input] = inverted;

@@ -1,4 +1,6 @@
 //! Reading cards: bits, fields, rungs.
+#![tactic(auto)]
+
 mod bits;
 mod card;
 mod fault;

@@ -1,5 +1,7 @@
 //! Many cards and listings: each line of standard input is a card in hexadecimal, or `#` and a listing in hexadecimal,
 //! and what `startline` prints for it follows on standard output.
+#![tactic(auto)]
+
 use instructions::Store;
 use listings::read_into;
 use programs::Program;

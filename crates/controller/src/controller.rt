@@ -23,7 +23,7 @@ pub struct Controller<B: Bank> {
 impl<B: Bank> Controller<B> {
     /// A controller over a bank, with a program of no rungs, which counts as one from a card.
     pub fn make(bank: B) -> Controller<B>
-        ensures stands { (buffer : List ℕ) → Stands points result buffer (made (points bank) buffer) }
+        ensures stands { (buffer : List ℕ) → Stands B.points result buffer (made (B.points bank) buffer) }
         ensures same { result.bank ≡ bank }
     {
         Controller {
@@ -52,7 +52,7 @@ impl<B: Bank> Controller<B> {
         &mut self,
         card: &[u8],
     ) -> Result<(usize, usize, usize, usize), InstallFault>
-        ensures step { DryStep Kind-as-Signal.kind points self.old (InstallCard card.entry) (installing result) self.new }
+        ensures step { DryStep B.Kind.Signal.kind B.points self.old (InstallCard card.entry) (installing result) self.new }
         ensures bank { self.new.bank ≡ self.old.bank }
     {
         if self.bank.count() < 768 {
@@ -67,7 +67,7 @@ impl<B: Bank> Controller<B> {
         &mut self,
         listing: &[u8],
     ) -> Result<(usize, usize, usize, usize), InstallFault>
-        ensures step { DryStep Kind-as-Signal.kind points self.old (InstallListing listing.entry) (installing result) self.new }
+        ensures step { DryStep B.Kind.Signal.kind B.points self.old (InstallListing listing.entry) (installing result) self.new }
         ensures bank { self.new.bank ≡ self.old.bank }
     {
         if self.bank.count() < 768 {
@@ -79,9 +79,9 @@ impl<B: Bank> Controller<B> {
 
     /// Sets the input of a number.
     pub fn set_input(&mut self, number: usize, signal: B::Kind) -> Result<(), Refusal>
-        ensures step { DryStep B.Kind.Signal.kind points self.old (SetInput number signal) (doing result) self.new }
-        ensures stays { seat self.new.bank ≡ seat self.old.bank }
-        ensures untouched { rest self.new.bank ≡ rest self.old.bank }
+        ensures step { DryStep B.Kind.Signal.kind B.points self.old (SetInput number signal) (doing result) self.new }
+        ensures stays { B.seat self.new.bank ≡ B.seat self.old.bank }
+        ensures untouched { B.rest self.new.bank ≡ B.rest self.old.bank }
     {
         if self.bank.count() < 768 {
             return Err(Refusal::SmallBank);
@@ -95,7 +95,7 @@ impl<B: Bank> Controller<B> {
 
     /// Reads the point at an index.
     pub fn read_point(&self, index: usize) -> Result<B::Kind, Refusal>
-        ensures { DryStep B.Kind.Signal.kind points self.now (ReadPoint index) (reading result) self.now }
+        ensures { DryStep B.Kind.Signal.kind B.points self.now (ReadPoint index) (reading result) self.now }
     {
         if self.bank.count() < 768 {
             return Err(Refusal::SmallBank);
@@ -108,10 +108,10 @@ impl<B: Bank> Controller<B> {
 
     /// Scans the program once over at least 15 working signals, which hold any signals afterwards.
     pub fn scan(&mut self, work: &mut [B::Kind]) -> Result<(), Refusal>
-        ensures step { DryStep B.Kind.Signal.kind points self.old (Scan (length work.old)) (doing result) self.new }
+        ensures step { DryStep B.Kind.Signal.kind B.points self.old (Scan (length work.old)) (doing result) self.new }
         ensures work { OnErr result (work.new ≡ work.old) }
-        ensures stays { seat self.new.bank ≡ seat self.old.bank }
-        ensures untouched { rest self.new.bank ≡ rest self.old.bank }
+        ensures stays { B.seat self.new.bank ≡ B.seat self.old.bank }
+        ensures untouched { B.rest self.new.bank ≡ B.rest self.old.bank }
     {
         // The bank is tested before the working signals.
         if self.bank.count() < 768 {
@@ -123,14 +123,14 @@ impl<B: Bank> Controller<B> {
 
     /// Writes the listing of the program: its length is answered, later bytes stay.
     pub fn write_listing(&self, buffer: &mut [u8]) -> Result<usize, ShortBuffer>
-        ensures { Step B.Kind.Signal.kind points self.now buffer.old (WriteListing (length buffer.old)) (writing result) self.now buffer.new }
+        ensures { Step B.Kind.Signal.kind B.points self.now buffer.old (WriteListing (length buffer.old)) (writing result) self.now buffer.new }
     {
         self.program.write_listing(buffer)
     }
 
     /// Writes the status line: its length is answered, later bytes stay.
     pub fn write_status(&self, buffer: &mut [u8]) -> Result<usize, ShortBuffer>
-        ensures { Step B.Kind.Signal.kind points self.now buffer.old (WriteStatus (length buffer.old)) (writing result) self.now buffer.new }
+        ensures { Step B.Kind.Signal.kind B.points self.now buffer.old (WriteStatus (length buffer.old)) (writing result) self.now buffer.new }
     {
         self.program.write_status(buffer)
     }

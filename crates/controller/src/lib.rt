@@ -1,4 +1,6 @@
 //! The controller: installs, settings, readings, scans and writings over a bank, and whole runs of them.
+#![tactic(auto)]
+
 mod call;
 mod controller;
 mod install_fault;

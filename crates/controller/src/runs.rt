@@ -27,9 +27,9 @@ pub fn operate<B: Bank>(
     buffer: &mut [u8],
     answers: &mut [Answer<B::Kind>],
 ) -> Outcome<B>
-    ensures run { Operated B.Kind.Signal.kind points (points bank) calls.now (given work.old buffer.old answers.old) result.controller result.performed (given work.new buffer.new answers.new) }
-    ensures stays { seat result.controller.bank ≡ seat bank }
-    ensures untouched { rest result.controller.bank ≡ rest bank }
+    ensures run { Operated B.Kind.Signal.kind B.points (B.points bank) calls.now (given work.old buffer.old answers.old) result.controller result.performed (given work.new buffer.new answers.new) }
+    ensures stays { B.seat result.controller.bank ≡ B.seat bank }
+    ensures untouched { B.rest result.controller.bank ≡ B.rest bank }
 {
     let mut controller = Controller::make(bank);
     let performed = controller.perform(calls, work, buffer, answers);
@@ -49,15 +49,15 @@ impl<B: Bank> Controller<B> {
         answers: &mut [Answer<B::Kind>],
     ) -> Result<(), ShortBuffer>
         ensures run { MatchResult result
-            (λ _. Performs B.Kind.Signal.kind points self.old calls.now
+            (λ _. Performs B.Kind.Signal.kind B.points self.old calls.now
             (given work.old buffer.old answers.old)
             (given work.new buffer.new answers.new) self.new)
             (λ _. Declined calls.now
             (given work.old buffer.old answers.old)
             (given work.new buffer.new answers.new)
             × (self.new ≡ self.old)) }
-        ensures stays { seat self.new.bank ≡ seat self.old.bank }
-        ensures untouched { rest self.new.bank ≡ rest self.old.bank }
+        ensures stays { B.seat self.new.bank ≡ B.seat self.old.bank }
+        ensures untouched { B.rest self.new.bank ≡ B.rest self.old.bank }
     {
         if answers.len() < calls.len() {
             return Err(ShortBuffer);
@@ -74,11 +74,11 @@ impl<B: Bank> Controller<B> {
         answers: &mut [Answer<B::Kind>],
     )
         requires { length calls.now ≤ length answers.old }
-        ensures run { Performs B.Kind.Signal.kind points self.old calls.now
+        ensures run { Performs B.Kind.Signal.kind B.points self.old calls.now
             (given work.old buffer.old answers.old)
             (given work.new buffer.new answers.new) self.new }
-        ensures stays { seat self.new.bank ≡ seat self.old.bank }
-        ensures untouched { rest self.new.bank ≡ rest self.old.bank }
+        ensures stays { B.seat self.new.bank ≡ B.seat self.old.bank }
+        ensures untouched { B.rest self.new.bank ≡ B.rest self.old.bank }
     {
         for i in 0..calls.len() {
             answers[i] = self.answer(&calls[i], work, buffer);
@@ -92,10 +92,10 @@ impl<B: Bank> Controller<B> {
         work: &mut [B::Kind],
         buffer: &mut [u8],
     ) -> Answer<B::Kind>
-        ensures step { Step B.Kind.Signal.kind points self.old buffer.old (lending (length work.old) (length buffer.old) call.now) result self.new buffer.new }
+        ensures step { Step B.Kind.Signal.kind B.points self.old buffer.old (lending (length work.old) (length buffer.old) call.now) result self.new buffer.new }
         ensures work { NoScan (lending (length work.old) (length buffer.old) call.now, result) → work.new ≡ work.old }
-        ensures stays { seat self.new.bank ≡ seat self.old.bank }
-        ensures untouched { rest self.new.bank ≡ rest self.old.bank }
+        ensures stays { B.seat self.new.bank ≡ B.seat self.old.bank }
+        ensures untouched { B.rest self.new.bank ≡ B.rest self.old.bank }
     {
         match *call {
             Call::InstallCard(card) => match self.install_card(card) {
@@ -122,10 +122,10 @@ impl<B: Bank> Controller<B> {
 
     /// Scans with so many of the working signals, or all that there are.
     fn scan_lent(&mut self, lent: usize, work: &mut [B::Kind]) -> Answer<B::Kind>
-        ensures step { DryStep B.Kind.Signal.kind points self.old (Scan (min lent (length work.old))) result self.new }
+        ensures step { DryStep B.Kind.Signal.kind B.points self.old (Scan (min lent (length work.old))) result self.new }
         ensures work { NoScan (Scan (min lent (length work.old)), result) → work.new ≡ work.old }
-        ensures stays { seat self.new.bank ≡ seat self.old.bank }
-        ensures untouched { rest self.new.bank ≡ rest self.old.bank }
+        ensures stays { B.seat self.new.bank ≡ B.seat self.old.bank }
+        ensures untouched { B.rest self.new.bank ≡ B.rest self.old.bank }
     {
         let size = lent.min(work.len());
         match self.scan(&mut work[0..size]) {
@@ -136,7 +136,7 @@ impl<B: Bank> Controller<B> {
 
     /// Writes the listing into so many of the bytes, or all that there are.
     fn list_lent(&self, lent: usize, buffer: &mut [u8]) -> Answer<B::Kind>
-        ensures { Step B.Kind.Signal.kind points self.now buffer.old (WriteListing (min lent (length buffer.old))) result self.now buffer.new }
+        ensures { Step B.Kind.Signal.kind B.points self.now buffer.old (WriteListing (min lent (length buffer.old))) result self.now buffer.new }
     {
         let size = lent.min(buffer.len());
         match self.write_listing(&mut buffer[0..size]) {
@@ -147,7 +147,7 @@ impl<B: Bank> Controller<B> {
 
     /// Writes the status line into so many of the bytes, or all that there are.
     fn status_lent(&self, lent: usize, buffer: &mut [u8]) -> Answer<B::Kind>
-        ensures { Step B.Kind.Signal.kind points self.now buffer.old (WriteStatus (min lent (length buffer.old))) result self.now buffer.new }
+        ensures { Step B.Kind.Signal.kind B.points self.now buffer.old (WriteStatus (min lent (length buffer.old))) result self.now buffer.new }
     {
         let size = lent.min(buffer.len());
         match self.write_status(&mut buffer[0..size]) {

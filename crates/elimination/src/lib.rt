@@ -1,4 +1,6 @@
 //! Recognition of series-parallel rungs by the elimination of joints.
+#![tactic(auto)]
+
 ghost use Rattle.std.specs.Prelude.{◌≡◌, ◌≤◌, length, replicate, None};
 ghost use Rattle.wiring.specs.Circuit.{circuit};
 ghost use Rattle.elimination.specs.Answer.{Answer};

@@ -1,4 +1,6 @@
 //! Instruction List: instructions, their words and their lines.
+#![tactic(auto)]
+
 mod brackets;
 mod instruction;
 mod line;

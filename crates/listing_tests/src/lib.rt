@@ -1,4 +1,6 @@
 //! Tests of listings at their limits.
+#![tactic(auto)]
+
 #[cfg(test)]
 mod tests {
     use listings::read;

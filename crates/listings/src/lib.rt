@@ -1,4 +1,6 @@
 //! Reading listings.
+#![tactic(auto)]
+
 mod agreement;
 mod fault;
 mod line;

@@ -1,4 +1,6 @@
 //! Piles of layers that are chosen while a program runs.
+#![tactic(auto)]
+
 mod arranging;
 mod fault;
 mod layer;

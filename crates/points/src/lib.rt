@@ -1,4 +1,6 @@
 //! The points of the signal mast.
+#![tactic(auto)]
+
 mod point;
 
 pub use point::{Area, Point};

@@ -1,4 +1,6 @@
 //! Programs that may stand: the rules on their words, and what they count.
+#![tactic(auto)]
+
 mod agreement;
 mod checker;
 mod draft;

@@ -1,4 +1,6 @@
 //! Scans on examples: on the plain and the doubtful kind, and on one that shows the order and the number of paths.
+#![tactic(auto)]
+
 mod trial;
 
 pub use trial::Trial;

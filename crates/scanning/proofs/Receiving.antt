@@ -13,7 +13,7 @@ use Rattle.scanning.specs.ByPaths.{link_signal, Received}
 
 pub on_by_a_path : {S : Type 0} (k : Kind S) → Laws k → TwoSignals k → (points : List S) (c : Circuit) (r : S) → Received k points c r → (r ≡ k.on) ↔ ((p : List ℕ) × Path c p × ((i : ℕ) → In i p → link_signal k points c i ≡ k.on))
 on_by_a_path k laws two points c r got =
-    let by = values.on-by-a-path k laws (link_signal k points c) two got.ways in (
+    let by = values.on_by_a_path k laws (link_signal k points c) two got.ways in (
       λ e. let x = by.0 (sym got.joining ∙ e) in (x.0, (got.all.are x.0).0 x.1, x.2),
       λ x. got.joining ∙ by.1 (x.0, (got.all.are x.0).1 x.1, x.2),
     )

@@ -9,7 +9,7 @@ use signals::Signal;
 
 /// Two signals joined, in this order.
 fn join<S: Signal>(joining: Joining, first: S, second: S) -> S
-    ensures { result ≡ joined kind joining first second }
+    ensures { result ≡ joined S.kind joining first second }
 {
     match joining {
         Joining::Series => first.series(second),
@@ -27,7 +27,7 @@ pub(crate) fn set_aside<S: Signal>(
     requires room { brackets.old.depth < 15 }
     requires enough { 15 ≤ length work.old }
     ensures depth { brackets.new.depth ≡ brackets.old.depth + 1 }
-    ensures piled { pile kind work.new brackets.new.joinings brackets.new.depth ≡ (res, joining) ∷ pile kind work.old brackets.old.joinings brackets.old.depth }
+    ensures piled { pile S.kind work.new brackets.new.joinings brackets.new.depth ≡ (res, joining) ∷ pile S.kind work.old brackets.old.joinings brackets.old.depth }
 {
     let depth = brackets.depth;
     brackets.joinings[depth] = joining;
@@ -40,7 +40,7 @@ pub(crate) fn take_back<S: Signal>(res: S, brackets: &mut Brackets, work: &[S]) 
     requires room { 0 < brackets.old.depth }
     requires enough { 15 ≤ length work.now }
     ensures depth { brackets.new.depth + 1 ≡ brackets.old.depth }
-    ensures joins { (points : List S) → standing kind result work.now brackets.new.joinings brackets.new.depth points ≡ rejoined kind (pile kind work.now brackets.old.joinings brackets.old.depth) (standing kind res work.now brackets.old.joinings brackets.old.depth points) }
+    ensures joins { (points : List S) → standing S.kind result work.now brackets.new.joinings brackets.new.depth points ≡ rejoined S.kind (pile S.kind work.now brackets.old.joinings brackets.old.depth) (standing S.kind res work.now brackets.old.joinings brackets.old.depth points) }
 {
     let depth = brackets.depth - 1;
     brackets.depth = depth;

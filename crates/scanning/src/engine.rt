@@ -20,11 +20,11 @@ use signals::Signal;
 pub(crate) fn scan_words<B: Bank>(words: &[u16], work: &mut [B::Kind], bank: &mut B)
     requires enough { 15 ≤ length work.old }
     requires fits { fitting 0 words.now ≡ true }
-    ensures after { points bank.new ≡ scanned B.Kind.Signal.kind words.now (points bank.old) }
-    ensures paths { (cs : List Circuit) → Listings cs words.now → ByPaths B.Kind.Signal.kind cs (points bank.old) (points bank.new) }
-    ensures same { (i : ℕ) → (In i (named words.now) → ⊥) → slice_get (points bank.new) i ≡ slice_get (points bank.old) i }
-    ensures stays { seat bank.new ≡ seat bank.old }
-    ensures untouched { rest bank.new ≡ rest bank.old }
+    ensures after { B.points bank.new ≡ scanned B.Kind.Signal.kind words.now (B.points bank.old) }
+    ensures paths { (cs : List Circuit) → Listings cs words.now → ByPaths B.Kind.Signal.kind cs (B.points bank.old) (B.points bank.new) }
+    ensures same { (i : ℕ) → (In i (named words.now) → ⊥) → slice_get (B.points bank.new) i ≡ slice_get (B.points bank.old) i }
+    ensures stays { B.seat bank.new ≡ B.seat bank.old }
+    ensures untouched { B.rest bank.new ≡ B.rest bank.old }
 {
     let mut brackets = Brackets {
         joinings: [Joining::Series; 15],

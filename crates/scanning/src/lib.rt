@@ -1,4 +1,6 @@
 //! Scans: what words make of the points, and that for the listings of rungs the paths make the same.
+#![tactic(auto)]
+
 mod aside;
 mod brackets;
 mod engine;

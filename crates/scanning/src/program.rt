@@ -17,11 +17,11 @@ use programs::Program;
 /// With fewer it is refused, and nothing is altered.
 pub fn scan<B: Bank>(program: &Program, work: &mut [B::Kind], bank: &mut B) -> Result<(), ScanFault>
     ensures test { MatchResult result (λ _. 15 ≤ length work.old) (λ _. (length work.old < 15) × (work.new ≡ work.old) × (bank.new ≡ bank.old)) }
-    ensures after { OnOk result (points bank.new ≡ scanned B.Kind.Signal.kind (held program.now) (points bank.old)) }
-    ensures paths { OnOk result ((cs : List Circuit) → Listings cs (held program.now) → ByPaths B.Kind.Signal.kind cs (points bank.old) (points bank.new)) }
-    ensures same { OnOk result (KeptUnnamed (named (held program.now)) (points bank.old) (points bank.new)) }
-    ensures stays { seat bank.new ≡ seat bank.old }
-    ensures untouched { rest bank.new ≡ rest bank.old }
+    ensures after { OnOk result (B.points bank.new ≡ scanned B.Kind.Signal.kind (held program.now) (B.points bank.old)) }
+    ensures paths { OnOk result ((cs : List Circuit) → Listings cs (held program.now) → ByPaths B.Kind.Signal.kind cs (B.points bank.old) (B.points bank.new)) }
+    ensures same { OnOk result (KeptUnnamed (named (held program.now)) (B.points bank.old) (B.points bank.new)) }
+    ensures stays { B.seat bank.new ≡ B.seat bank.old }
+    ensures untouched { B.rest bank.new ≡ B.rest bank.old }
 {
     if work.len() < 15 {
         return Err(ScanFault::FewSignals);

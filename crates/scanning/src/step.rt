@@ -16,14 +16,14 @@ use wiring::Action;
 
 /// The signal of a point; off where the bank has no such point.
 fn signal_at<B: Bank>(bank: &B, point: Point) -> B::Kind
-    ensures { result ≡ signal_at B.Kind.Signal.kind (points bank.now) point }
+    ensures { result ≡ signal_at B.Kind.Signal.kind (B.points bank.now) point }
 {
     bank.read(point.index()).unwrap_or(B::Kind::off())
 }
 
 /// The signal of an operand.
 fn signal_of<B: Bank>(bank: &B, operand: Operand) -> B::Kind
-    ensures { result ≡ signal_of B.Kind.Signal.kind (points bank.now) operand }
+    ensures { result ≡ signal_of B.Kind.Signal.kind (B.points bank.now) operand }
 {
     match operand {
         Operand::True => B::Kind::on(),
@@ -33,7 +33,7 @@ fn signal_of<B: Bank>(bank: &B, operand: Operand) -> B::Kind
 
 /// What a coil makes of its point's signal with the signal that it receives.
 fn drive<S: Signal>(action: Action, point: S, received: S) -> S
-    ensures { result ≡ driven kind action point received }
+    ensures { result ≡ driven S.kind action point received }
 {
     match action {
         Action::Store => received,
@@ -45,9 +45,9 @@ fn drive<S: Signal>(action: Action, point: S, received: S) -> S
 
 /// Does what a coil does with the result; `TRUE` is no point, and nothing is stored there.
 fn coil<B: Bank>(action: Action, operand: Operand, res: B::Kind, bank: &mut B)
-    ensures after { points bank.new ≡ coiled_onto B.Kind.Signal.kind action operand res (points bank.old) }
-    ensures stays { seat bank.new ≡ seat bank.old }
-    ensures untouched { rest bank.new ≡ rest bank.old }
+    ensures after { B.points bank.new ≡ coiled_onto B.Kind.Signal.kind action operand res (B.points bank.old) }
+    ensures stays { B.seat bank.new ≡ B.seat bank.old }
+    ensures untouched { B.rest bank.new ≡ B.rest bank.old }
 {
     match operand {
         Operand::True => {}
@@ -69,9 +69,9 @@ fn step<B: Bank>(
     requires room { roomy brackets.old.depth instruction ≡ true }
     requires enough { 15 ≤ length work.old }
     ensures depth { brackets.new.depth ≡ opened brackets.old.depth instruction }
-    ensures acts { standing B.Kind.Signal.kind result work.new brackets.new.joinings brackets.new.depth (points bank.new) ≡ acts B.Kind.Signal.kind instruction (standing B.Kind.Signal.kind res work.old brackets.old.joinings brackets.old.depth (points bank.old)) }
-    ensures stays { seat bank.new ≡ seat bank.old }
-    ensures untouched { rest bank.new ≡ rest bank.old }
+    ensures acts { standing B.Kind.Signal.kind result work.new brackets.new.joinings brackets.new.depth (B.points bank.new) ≡ acts B.Kind.Signal.kind instruction (standing B.Kind.Signal.kind res work.old brackets.old.joinings brackets.old.depth (B.points bank.old)) }
+    ensures stays { B.seat bank.new ≡ B.seat bank.old }
+    ensures untouched { B.rest bank.new ≡ B.rest bank.old }
 {
     match instruction {
         Instruction::Load(operand) => signal_of(bank, operand),
@@ -119,9 +119,9 @@ pub(crate) fn perform<B: Bank>(
     requires room { roomy_if brackets.old.depth (instruction_of word) ≡ true }
     requires enough { 15 ≤ length work.old }
     ensures depth { brackets.new.depth ≡ opened_if brackets.old.depth (instruction_of word) }
-    ensures acts { standing B.Kind.Signal.kind result work.new brackets.new.joinings brackets.new.depth (points bank.new) ≡ acts_if B.Kind.Signal.kind (instruction_of word) (standing B.Kind.Signal.kind res work.old brackets.old.joinings brackets.old.depth (points bank.old)) }
-    ensures stays { seat bank.new ≡ seat bank.old }
-    ensures untouched { rest bank.new ≡ rest bank.old }
+    ensures acts { standing B.Kind.Signal.kind result work.new brackets.new.joinings brackets.new.depth (B.points bank.new) ≡ acts_if B.Kind.Signal.kind (instruction_of word) (standing B.Kind.Signal.kind res work.old brackets.old.joinings brackets.old.depth (B.points bank.old)) }
+    ensures stays { B.seat bank.new ≡ B.seat bank.old }
+    ensures untouched { B.rest bank.new ≡ B.rest bank.old }
 {
     match Instruction::from_word(word) {
         Some(instruction) => step(instruction, res, brackets, work, bank),

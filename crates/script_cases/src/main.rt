@@ -1,4 +1,6 @@
 //! Performs a script of many calls, whose answers were made by an independent program.
+#![tactic(auto)]
+
 use scripts::run_script;
 use std::io;
 use std::io::{Read, Write};

@@ -1,4 +1,6 @@
 //! Scripts of calls: a command a line, an answer a line.
+#![tactic(auto)]
+
 mod answers;
 mod arranging;
 mod calling;

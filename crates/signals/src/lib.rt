@@ -1,4 +1,6 @@
 //! Signal kinds.
+#![tactic(auto)]
+
 mod doubtful;
 mod plain;
 mod signal;

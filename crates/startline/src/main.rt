@@ -1,4 +1,6 @@
 //! Translates ladder cards, reads listings back, and runs scripts of calls on a controller.
+#![tactic(auto)]
+
 mod help;
 mod output;
 

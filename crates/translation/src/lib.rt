@@ -1,4 +1,6 @@
 //! From rungs to words.
+#![tactic(auto)]
+
 mod card;
 mod draft;
 mod emitters;

@@ -1,4 +1,6 @@
 //! Rungs, and what it means that a wiring reads one.
+#![tactic(auto)]
+
 mod rung;
 mod theorems;
 

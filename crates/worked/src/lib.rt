@@ -1,4 +1,6 @@
 //! The worked examples: one fact about the definitions.
+#![tactic(auto)]
+
 ghost use Rattle.worked.specs.Examples.{WorkedExamples};
 
 /// What the definitions make of the worked cards, rungs and lines.

@@ -5,6 +5,6 @@ pub returns : goal.returns
 returns c =
     record {
       back = search rules;
-      elsewhere = λ j n. let stays = c.write-and-read.ensures.elsewhere j n in search rules;
+      elsewhere = λ j n. let stays = c.write_and_read.ensures.elsewhere j n in search rules;
       untouched = search rules;
     }

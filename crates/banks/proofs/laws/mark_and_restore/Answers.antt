@@ -10,6 +10,6 @@ returns g c =
       told = c.mark-2.ensures.told;
       below = c.mark-2.ensures.below ∙ c.mark.ensures.below;
       restored =
-          c.mark-2.ensures.marked ∙ ap (λ ns. set ns i c.is-marked-before.result) c.mark.ensures.marked
-          ∙ set-set ms i c.args.changed c.is-marked-before.result ∙ ap (set ms i) c.is-marked-before.ensures ∙ set-get_or ms i false;
+          c.mark-2.ensures.marked ∙ ap (λ ns. set ns i c.is_marked-before.result) c.mark.ensures.marked
+          ∙ set-set ms i c.args.changed c.is_marked-before.result ∙ ap (set ms i) c.is_marked-before.ensures ∙ set-get_or ms i false;
     }

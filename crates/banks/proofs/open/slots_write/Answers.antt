@@ -4,11 +4,11 @@ use Rattle.std.proofs.lemmas.List.{set_past}
 use Rattle.banks.proofs.Slots.{taken_below}
 use Rattle.banks.proofs.open.slots_write.Goals as goal
 
-pub offset-bounds-slots-index : goal.offset-bounds-slots-index
-offset-bounds-slots-index g c = let h : c.args.index < length c.args.slots.now = omega arith in search rules
+pub offset_bounds-slots-index : goal.offset_bounds-slots-index
+offset_bounds-slots-index g c = let h : c.args.index < length c.args.slots.now = omega arith in search rules
 
-pub returns-then-index-slots-count : goal.returns-then-index-slots-count
-returns-then-index-slots-count g c =
+pub returns-then-index-slots_count : goal.returns-then-index-slots_count
+returns-then-index-slots_count g c =
     let h : c.args.index < length (take 768 c.args.slots.now) = search rules in
     let k : c.args.index < 768 = taken_below c.args.slots.now c.args.index 768 h in
     record {
@@ -17,8 +17,8 @@ returns-then-index-slots-count g c =
       untouched = drop-set-lt 768 c.args.slots.now c.args.index c.args.signal k;
     }
 
-pub returns-else-index-slots-count : goal.returns-else-index-slots-count
-returns-else-index-slots-count g c =
+pub returns-else-index-slots_count : goal.returns-else-index-slots_count
+returns-else-index-slots_count g c =
     let h : length (take 768 c.args.slots.now) ≤ c.args.index = search rules in
     record {
       told = search rules;

@@ -6,15 +6,15 @@ use Rattle.banks.specs.Short.{length-unpacked}
 use Rattle.banks.proofs.Pairs.{set-unpacked, bits-other, drop-after}
 use Rattle.banks.proofs.packed.bytes_write.Goals as goal
 
-pub returns-then-index-bytes-count : goal.returns-then-index-bytes-count
-returns-then-index-bytes-count c =
+pub returns-then-index-bytes_count : goal.returns-then-index-bytes_count
+returns-then-index-bytes_count c =
     let bytes : List ℕ = c.args.bytes.now in
     let i : ℕ = c.args.index in
     let s = c.args.signal in
-    let h : c.args.index < held c.args.bytes.now = omega (arith, c.bytes-count.ensures) in
+    let h : c.args.index < held c.args.bytes.now = omega (arith, c.bytes_count.ensures) in
     let k : c.args.index < length (unpacked c.args.bytes.now) = omega (arith, length-unpacked c.args.bytes.now) in
-    let e : set c.args.bytes.now (c.args.index / 4) c.with-pair.result ≡ set c.args.bytes.now (c.args.index / 4) (with_pair (get_or c.args.bytes.now (c.args.index / 4) 0) (c.args.index % 4) (written c.args.signal)) =
-    ap (set bytes (i / 4)) (c.with-pair.ensures ∙ ap (with_pair (get_or bytes (i / 4) 0) (i % 4)) c.bits-for.ensures.value) in
+    let e : set c.args.bytes.now (c.args.index / 4) c.with_pair.result ≡ set c.args.bytes.now (c.args.index / 4) (with_pair (get_or c.args.bytes.now (c.args.index / 4) 0) (c.args.index % 4) (written c.args.signal)) =
+    ap (set bytes (i / 4)) (c.with_pair.ensures ∙ ap (with_pair (get_or bytes (i / 4) 0) (i % 4)) c.bits_for.ensures.value) in
     record {
       told = sym (lt-ltb i (length (unpacked bytes)) k);
       after = ap unpacked e ∙ set-unpacked bytes i s h;
@@ -23,11 +23,11 @@ returns-then-index-bytes-count c =
       untouched = ap (drop 192) e ∙ drop-after bytes i s h;
     }
 
-pub returns-else-index-bytes-count : goal.returns-else-index-bytes-count
-returns-else-index-bytes-count c =
+pub returns-else-index-bytes_count : goal.returns-else-index-bytes_count
+returns-else-index-bytes_count c =
     let bytes : List ℕ = c.args.bytes.now in
     let i : ℕ = c.args.index in
-    let h : held c.args.bytes.now ≤ c.args.index = omega (arith, c.bytes-count.ensures) in
+    let h : held c.args.bytes.now ≤ c.args.index = omega (arith, c.bytes_count.ensures) in
     let k : length (unpacked c.args.bytes.now) ≤ c.args.index = omega (arith, length-unpacked c.args.bytes.now) in
     record {
       told = sym (le-ltb i (length (unpacked bytes)) k);

@@ -11,7 +11,7 @@ gather-requires c =
 
 pub unreachable-requires : goal.unreachable-requires
 unreachable-requires c =
-    some_into c.args.passage.joint c.args.passage.from c.args.passage.to c.args.table.now.nodes c.args.slots.now 0 _ _ c.gather.result c.requires.may c.gather.ensures.group c.in-default.is
+    some_into c.args.passage.joint c.args.passage.from c.args.passage.to c.args.table.now.nodes c.args.slots.now 0 _ _ c.gather.result c.requires.may c.gather.ensures.group c.in_default.is
 
 pub gather-requires-2 : goal.gather-requires-2
 gather-requires-2 c =
@@ -22,11 +22,11 @@ gather-requires-2 c =
       room = omega arith;
     }
 
-pub unreachable-requires-in-default-gather : goal.unreachable-requires-in-default-gather
-unreachable-requires-in-default-gather c =
+pub unreachable-requires-in_default-gather : goal.unreachable-requires-in_default-gather
+unreachable-requires-in_default-gather c =
     some_out c.args.passage.joint c.args.passage.from c.args.passage.to c.args.table.now.nodes c.args.slots.now 0 c.gather.new.table.nodes _ _ c.gather-2.result
     (touch-grown Leaving c.args.passage.joint c.args.table.now.nodes c.args.table.now.len c.gather.new.table.nodes c.gather.new.table.len c.args.slots.now c.gather.ensures.grown c.requires.stands)
-    c.requires.may c.gather-2.ensures.group c.in-default-gather.is
+    c.requires.may c.gather-2.ensures.group c.in_default-gather.is
 
 pub push-at-requires : goal.push-at-requires
 push-at-requires c =

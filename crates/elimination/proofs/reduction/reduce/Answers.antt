@@ -27,10 +27,10 @@ pub loop-next-preserved : goal.loop-next-preserved
 loop-next-preserved c =
     work_more c.args.joints _ _ c.loop-next.slots c.loop-next.table.nodes c.loop-next.table.len c.loop-next.gone c.in-Some.next _ _ _ c.requires.most c.loop-next.invariant c.in-Some.ensures c.eliminate.ensures
 
-pub returns-then-not-all-gone : goal.returns-then-not-all-gone
-returns-then-not-all-gone c =
-    gone_refused c.args.joints _ _ c.loop-next.slots c.loop-next.table.nodes c.loop-next.table.len c.loop-next.gone c.loop-next.invariant c.in-default.ensures c.if-not-all-gone.ensures
+pub returns-then-not-all_gone : goal.returns-then-not-all_gone
+returns-then-not-all_gone c =
+    gone_refused c.args.joints _ _ c.loop-next.slots c.loop-next.table.nodes c.loop-next.table.len c.loop-next.gone c.loop-next.invariant c.in_default.ensures c.if-not-all_gone.ensures
 
 pub returns : goal.returns
 returns c =
-    outcome c.args.joints _ _ c.loop-next.slots c.loop-next.table.nodes c.loop-next.table.len c.loop-next.gone c.loop-next.invariant c.in-default.ensures c.if-not-all-gone.ensures c.all-straight.result c.all-straight.ensures
+    outcome c.args.joints _ _ c.loop-next.slots c.loop-next.table.nodes c.loop-next.table.len c.loop-next.gone c.loop-next.invariant c.in_default.ensures c.if-not-all_gone.ensures c.all_straight.result c.all_straight.ensures

@@ -8,11 +8,11 @@ pub loop-word-preserved : goal.loop-word-preserved
 loop-word-preserved c =
     let i = c.loop-word.word-index in
     let ws = c.args.words.now in
-    let m = c.open-after-open.ensures.value in
-    let b = c.open-after-open.ensures.bound in
+    let m = c.open_after-open.ensures.value in
+    let b = c.open_after-open.ensures.bound in
     let x = c.max-deepest.ensures in
-    let step = deepest-more c.loop-word.«open» c.open-after-open.result c.loop-word.deepest ws i (omega arith) m c.loop-word.invariant.2 in
-    (ap (λ k. max k (deepest c.open-after-open.result (drop (i + 1) ws))) x ∙ step ∙ c.loop-word.invariant.0, omega arith, omega arith)
+    let step = deepest-more c.loop-word.«open» c.open_after-open.result c.loop-word.deepest ws i (omega arith) m c.loop-word.invariant.2 in
+    (ap (λ k. max k (deepest c.open_after-open.result (drop (i + 1) ws))) x ∙ step ∙ c.loop-word.invariant.0, omega arith, omega arith)
 
 pub returns : goal.returns
 returns c =

@@ -8,8 +8,8 @@ pub loop-word-preserved : goal.loop-word-preserved
 loop-word-preserved c =
     let i = c.loop-word.word-index in
     let ws = c.args.words.now in
-    let v = c.word-len-len.ensures.value in
-    let b = c.word-len-len.ensures.bound in
+    let v = c.word_len-len.ensures.value in
+    let b = c.word_len-len.ensures.bound in
     let e = ap length (joined-next word_line ws i 0 (omega arith)) in
     (omega (arith, length-append (listing (take i ws)) (word_line (get_or ws i 0))), omega arith)
 

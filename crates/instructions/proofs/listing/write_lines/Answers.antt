@@ -8,11 +8,11 @@ use Rattle.instructions.proofs.listing.write_lines.Goals as goal
 pub loop-word-init : goal.loop-word-init
 loop-word-init c = wrote_none word_line c.args.words.now c.args.buffer.now 0
 
-pub write-word-end-requires : goal.write-word-end-requires
-write-word-end-requires c = room_next word_line c.args.words.now c.loop-word.word-index 0 (omega arith) (omega arith) c.loop-word.invariant
+pub write_word-end-requires : goal.write_word-end-requires
+write_word-end-requires c = room_next word_line c.args.words.now c.loop-word.word-index 0 (omega arith) (omega arith) c.loop-word.invariant
 
 pub loop-word-preserved : goal.loop-word-preserved
-loop-word-preserved c = wrote_next word_line c.args.words.now c.loop-word.word-index 0 (omega arith) c.loop-word.invariant c.write-word-end.ensures
+loop-word-preserved c = wrote_next word_line c.args.words.now c.loop-word.word-index 0 (omega arith) c.loop-word.invariant c.write_word-end.ensures
 
 pub returns : goal.returns
 returns c =

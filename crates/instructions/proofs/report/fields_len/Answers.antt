@@ -5,8 +5,8 @@ use Rattle.instructions.specs.Texts.{field, fields}
 use Rattle.instructions.proofs.Texts.{joined-next}
 use Rattle.instructions.proofs.report.fields_len.Goals as goal
 
-pub overflow-add-len : goal.overflow-add-len
-overflow-add-len c =
+pub overflow_add-len : goal.overflow_add-len
+overflow_add-len c =
     let n = get_or c.args.numbers.now c.loop-number.number-index 0 in
     omega (arith, length-decimal-le 20 n (lit< tt) (omega arith) (omega arith))
 
@@ -23,7 +23,7 @@ returns c =
     let e = ap (λ l. length (fields l)) (take_all c.loop-number.number-index c.args.numbers.now (omega arith)) in
     record { value = c.loop-number.invariant.0 ∙ e; bound = omega arith }
 
-pub overflow-add-len-in-loop-number : goal.overflow-add-len-in-loop-number
-overflow-add-len-in-loop-number c =
+pub overflow_add-len-in-loop-number : goal.overflow_add-len-in-loop-number
+overflow_add-len-in-loop-number c =
     let n = get_or c.args.numbers.now c.loop-number.number-index 0 in
     omega (arith, length-decimal-le 20 n (lit< tt) (omega arith) (omega arith))

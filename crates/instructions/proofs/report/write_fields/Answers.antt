@@ -7,11 +7,11 @@ use Rattle.instructions.proofs.report.write_fields.Goals as goal
 pub loop-number-init : goal.loop-number-init
 loop-number-init c = wrote_none field c.args.numbers.now c.args.buffer.now c.args.at
 
-pub write-field-end-requires : goal.write-field-end-requires
-write-field-end-requires c = room_next field c.args.numbers.now c.loop-number.number-index 0 (omega arith) c.requires c.loop-number.invariant
+pub write_field-end-requires : goal.write_field-end-requires
+write_field-end-requires c = room_next field c.args.numbers.now c.loop-number.number-index 0 (omega arith) c.requires c.loop-number.invariant
 
 pub loop-number-preserved : goal.loop-number-preserved
-loop-number-preserved c = wrote_next field c.args.numbers.now c.loop-number.number-index 0 (omega arith) c.loop-number.invariant c.write-field-end.ensures
+loop-number-preserved c = wrote_next field c.args.numbers.now c.loop-number.number-index 0 (omega arith) c.loop-number.invariant c.write_field-end.ensures
 
 pub returns : goal.returns
 returns c =

@@ -10,13 +10,13 @@ pub returns-then-buffer-word : goal.returns-then-buffer-word
 returns-then-buffer-word c =
     let ws = c.args.word.now in
     let ns = c.args.numbers.now in
-    let v = c.fields-len.ensures.value in
+    let v = c.fields_len.ensures.value in
     written_short (record_of ws ns) c.args.buffer.now _ (omega (arith, length-append ws (fields ns ++ (10 ∷ [])), length-append (fields ns) (10 ∷ [])))
 
 pub returns : goal.returns
 returns c =
     let ws = c.args.word.now in
     let ns = c.args.numbers.now in
-    let v = c.fields-len.ensures.value in
+    let v = c.fields_len.ensures.value in
     written_whole (omega (arith, length-append ws (fields ns ++ (10 ∷ [])), length-append (fields ns) (10 ∷ [])))
-    (then_wrote c.write-all-named.ensures (then_wrote c.write-fields-end.ensures c.write-byte.ensures))
+    (then_wrote c.write_all-named.ensures (then_wrote c.write_fields-end.ensures c.write_byte.ensures))

@@ -7,13 +7,13 @@ use Rattle.listings.proofs.Progress.{at-end}
 use Rattle.listings.proofs.Laws.{exact, refused_value}
 use Rattle.listings.proofs.listing.read.Goals as goal
 
-pub returns-in-err-byte : goal.returns-in-err-byte
-returns-in-err-byte c =
+pub returns-in_err-byte : goal.returns-in_err-byte
+returns-in_err-byte c =
     let bytes = c.args.bytes.now in
-    let answer = c.from-residual.result in
+    let answer = c.from_residual.result in
     let now = read_from (Ok (reached c.loop-byte.draft c.loop-byte.byte c.loop-byte.line)) (drop c.loop-byte.byte bytes) in
-    let p = err_from_is_err_and answer c.from-residual.ensures.1 in
-    let v = refused_value bytes answer p.0 c.in-err-byte.field-0.0 now p.1 p.2 c.in-err-byte.ensures c.loop-byte.invariant.0 in
+    let p = err_from_is_err_and answer c.from_residual.ensures.1 in
+    let v = refused_value bytes answer p.0 c.in_err-byte.field-0.0 now p.1 p.2 c.in_err-byte.ensures c.loop-byte.invariant.0 in
     record { value = v; exact = exact bytes answer v }
 
 pub returns-in-Ok : goal.returns-in-Ok

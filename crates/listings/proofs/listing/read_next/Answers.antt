@@ -16,23 +16,23 @@ returns-then-end-rest c =
     let n = length-drop byte bytes in
     let p = c.requires in
     from_rest (reached c.args.draft.now byte c.args.line) (drop byte bytes) (omega arith)
-    (ap (byte_in 10) (sym whole) ∙ sym c.find-byte-end.ensures.value ∙ c.if-end-rest.true ∙ ap length whole)
+    (ap (byte_in 10) (sym whole) ∙ sym c.find_byte-end.ensures.value ∙ c.if-end-rest.true ∙ ap length whole)
 
 pub returns-in-Ok : goal.returns-in-Ok
 returns-in-Ok c =
     let bytes = c.args.bytes.now in
     let byte = c.args.byte in
-    let end = c.find-byte-end.result in
+    let end = c.find_byte-end.result in
     let d = c.args.draft.now in
     let whole = take_rest bytes byte in
     let n = length-drop byte bytes in
     let m = ap length whole in
-    let w = c.find-byte-end.ensures.within in
+    let w = c.find_byte-end.ensures.within in
     let p = c.requires in
     let z : end - 0 ≡ end = omega arith in
     let line : take (end - 0) (take (length bytes - byte) (drop byte bytes)) ≡ take end (drop byte bytes) = (λ j. take (z j) (whole j)) in
     let a = c.in-Ok.ensures in (
-      next-read bytes d c.add-line.new.draft byte c.args.line end p (c.find-byte-end.ensures.value ∙ ap (byte_in 10) whole) (omega arith)
+      next-read bytes d c.add_line.new.draft byte c.args.line end p (c.find_byte-end.ensures.value ∙ ap (byte_in 10) whole) (omega arith)
           (ap (λ t. line_led (standing d) (line_read t)) (sym line) ∙ a.0) (a.1 ∙ ap (λ t. drafted d ++ line_word (line_read t)) line),
       omega arith,
       omega arith,
@@ -42,13 +42,13 @@ pub returns-in-Err : goal.returns-in-Err
 returns-in-Err c =
     let bytes = c.args.bytes.now in
     let byte = c.args.byte in
-    let end = c.find-byte-end.result in
+    let end = c.find_byte-end.result in
     let d = c.args.draft.now in
     let whole = take_rest bytes byte in
     let n = length-drop byte bytes in
     let m = ap length whole in
-    let w = c.find-byte-end.ensures.within in
+    let w = c.find_byte-end.ensures.within in
     let z : end - 0 ≡ end = omega arith in
     let line : take (end - 0) (take (length bytes - byte) (drop byte bytes)) ≡ take end (drop byte bytes) = (λ j. take (z j) (whole j)) in
-    next_refused bytes d byte c.args.line end c.in-Err.cause (c.find-byte-end.ensures.value ∙ ap (byte_in 10) whole) (omega arith)
+    next_refused bytes d byte c.args.line end c.in-Err.cause (c.find_byte-end.ensures.value ∙ ap (byte_in 10) whole) (omega arith)
     (ap (λ t. line_led (standing d) (line_read t)) (sym line) ∙ c.in-Err.ensures.0)

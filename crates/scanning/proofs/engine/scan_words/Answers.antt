@@ -24,13 +24,13 @@ loop-word-preserved g c = (
 
 pub returns : goal.returns
 returns g c =
-    let k = g.Kind.Signal.kind in
+    let k = g.B.Kind.Signal.kind in
     let words = c.args.words.now in
     let points = g.B.Bank.points c.args.bank.now in
     let e : g.B.Bank.points c.loop-word.bank ≡ scanned k words points = going_points k words _ _ _ (runs k words (fresh k points)) (omega arith) c.loop-word.invariant.1 in
     record {
       after = e;
-      paths = left_by_paths k g.met.Kind.Signal.laws words points _ e;
+      paths = left_by_paths k g.met.B.Kind.Signal.laws words points _ e;
       same = left_unnamed k words points _ e;
       stays = c.loop-word.invariant.2;
       untouched = c.loop-word.invariant.3;

@@ -8,26 +8,26 @@ use Rattle.translation.specs.Drafts.{series_contact, branch_contact, series_word
 use Rattle.translation.proofs.Texts.{then_adds, adds_as, room_as, room-first, room_next, series_link, series_series, series_parallel, branch_link, branch_parallel, branch_series}
 use Rattle.translation.proofs.emitters.+emit_branches_emit_series.Goals as goal
 
-pub emit-series-push-requires : goal.emit-series-push-requires
-emit-series-push-requires t c =
+pub emit_series-push-requires : goal.emit_series-push-requires
+emit_series-push-requires t c =
     let g = circuit c.args.rung.now in
     let ns = c.args.table.now.nodes in
     let place = c.args.place in
     let e = ap (series_words g place) c.in-Link.ensures.tree ∙ series_link g place c.in-Link.link in
-    let k = ap (λ i. word_of i ∷ []) (c.in-series.ensures ∙ ap (series_contact place) c.contact-at.ensures) in
+    let k = ap (λ i. word_of i ∷ []) (c.in_series.ensures ∙ ap (series_contact place) c.contact_at.ensures) in
     room_as (e ∙ sym k) c.requires
 
-pub emit-series-returns-in-Link : goal.emit-series-returns-in-Link
-emit-series-returns-in-Link t c =
+pub emit_series-returns-in-Link : goal.emit_series-returns-in-Link
+emit_series-returns-in-Link t c =
     let g = circuit c.args.rung.now in
     let ns = c.args.table.now.nodes in
     let place = c.args.place in
     let e = ap (series_words g place) c.in-Link.ensures.tree ∙ series_link g place c.in-Link.link in
-    let k = ap (λ i. word_of i ∷ []) (c.in-series.ensures ∙ ap (series_contact place) c.contact-at.ensures) in
+    let k = ap (λ i. word_of i ∷ []) (c.in_series.ensures ∙ ap (series_contact place) c.contact_at.ensures) in
     adds_as (e ∙ sym k) c.push.ensures
 
-pub emit-series-emit-series-requires : goal.emit-series-emit-series-requires
-emit-series-emit-series-requires t c =
+pub emit_series-emit_series-requires : goal.emit_series-emit_series-requires
+emit_series-emit_series-requires t c =
     let g = circuit c.args.rung.now in
     let ns = c.args.table.now.nodes in
     let place = c.args.place in
@@ -36,28 +36,28 @@ emit-series-emit-series-requires t c =
     let e = ap (series_words g place) c.in-Series.ensures.tree ∙ series_series g place a b in
     (omega (arith, c.in-Series.ensures.below.0), room-first (series_words g place a) (series_words g Later b) (room_as e c.requires))
 
-pub emit-series-emit-series-requires-in-Series : goal.emit-series-emit-series-requires-in-Series
-emit-series-emit-series-requires-in-Series t c =
+pub emit_series-emit_series-requires-in-Series : goal.emit_series-emit_series-requires-in-Series
+emit_series-emit_series-requires-in-Series t c =
     let g = circuit c.args.rung.now in
     let ns = c.args.table.now.nodes in
     let place = c.args.place in
     let a = tree_at ns c.in-Series.first in
     let b = tree_at ns c.in-Series.second in
     let e = ap (series_words g place) c.in-Series.ensures.tree ∙ series_series g place a b in
-    (omega (arith, c.in-Series.ensures.below.1), room_next (series_words g place a) (series_words g Later b) (room_as e c.requires) c.emit-series.ensures)
+    (omega (arith, c.in-Series.ensures.below.1), room_next (series_words g place a) (series_words g Later b) (room_as e c.requires) c.emit_series.ensures)
 
-pub emit-series-returns-in-Series : goal.emit-series-returns-in-Series
-emit-series-returns-in-Series t c =
+pub emit_series-returns-in-Series : goal.emit_series-returns-in-Series
+emit_series-returns-in-Series t c =
     let g = circuit c.args.rung.now in
     let ns = c.args.table.now.nodes in
     let place = c.args.place in
     let a = tree_at ns c.in-Series.first in
     let b = tree_at ns c.in-Series.second in
     let e = ap (series_words g place) c.in-Series.ensures.tree ∙ series_series g place a b in
-    adds_as e (then_adds c.emit-series.ensures c.emit-series-in-Series.ensures)
+    adds_as e (then_adds c.emit_series.ensures c.emit_series-in-Series.ensures)
 
-pub emit-series-bracket-requires : goal.emit-series-bracket-requires
-emit-series-bracket-requires t c =
+pub emit_series-bracket-requires : goal.emit_series-bracket-requires
+emit_series-bracket-requires t c =
     let g = circuit c.args.rung.now in
     let ns = c.args.table.now.nodes in
     let place = c.args.place in
@@ -66,8 +66,8 @@ emit-series-bracket-requires t c =
     let e = ap (series_words g place) c.in-Parallel.ensures.tree ∙ series_parallel g place a b in
     room-first (bracketed place AndOpen) (branch_words g First a ++ (branch_words g Later b ++ bracketed place Close)) (room_as e c.requires)
 
-pub emit-series-emit-branches-requires : goal.emit-series-emit-branches-requires
-emit-series-emit-branches-requires t c =
+pub emit_series-emit_branches-requires : goal.emit_series-emit_branches-requires
+emit_series-emit_branches-requires t c =
     let g = circuit c.args.rung.now in
     let ns = c.args.table.now.nodes in
     let place = c.args.place in
@@ -76,56 +76,56 @@ emit-series-emit-branches-requires t c =
     let e = ap (series_words g place) c.in-Parallel.ensures.tree ∙ series_parallel g place a b in
     (omega (arith, c.in-Parallel.ensures.below.0), room-first (branch_words g First a) (branch_words g Later b ++ bracketed place Close) (room_next (bracketed place AndOpen) (branch_words g First a ++ (branch_words g Later b ++ bracketed place Close)) (room_as e c.requires) c.bracket.ensures))
 
-pub emit-series-emit-branches-requires-in-Parallel : goal.emit-series-emit-branches-requires-in-Parallel
-emit-series-emit-branches-requires-in-Parallel t c =
+pub emit_series-emit_branches-requires-in-Parallel : goal.emit_series-emit_branches-requires-in-Parallel
+emit_series-emit_branches-requires-in-Parallel t c =
     let g = circuit c.args.rung.now in
     let ns = c.args.table.now.nodes in
     let place = c.args.place in
     let a = tree_at ns c.in-Parallel.first in
     let b = tree_at ns c.in-Parallel.second in
     let e = ap (series_words g place) c.in-Parallel.ensures.tree ∙ series_parallel g place a b in
-    (omega (arith, c.in-Parallel.ensures.below.1), room-first (branch_words g Later b) (bracketed place Close) (room_next (branch_words g First a) (branch_words g Later b ++ bracketed place Close) (room_next (bracketed place AndOpen) (branch_words g First a ++ (branch_words g Later b ++ bracketed place Close)) (room_as e c.requires) c.bracket.ensures) c.emit-branches.ensures))
+    (omega (arith, c.in-Parallel.ensures.below.1), room-first (branch_words g Later b) (bracketed place Close) (room_next (branch_words g First a) (branch_words g Later b ++ bracketed place Close) (room_next (bracketed place AndOpen) (branch_words g First a ++ (branch_words g Later b ++ bracketed place Close)) (room_as e c.requires) c.bracket.ensures) c.emit_branches.ensures))
 
-pub emit-series-bracket-requires-in-Parallel : goal.emit-series-bracket-requires-in-Parallel
-emit-series-bracket-requires-in-Parallel t c =
+pub emit_series-bracket-requires-in-Parallel : goal.emit_series-bracket-requires-in-Parallel
+emit_series-bracket-requires-in-Parallel t c =
     let g = circuit c.args.rung.now in
     let ns = c.args.table.now.nodes in
     let place = c.args.place in
     let a = tree_at ns c.in-Parallel.first in
     let b = tree_at ns c.in-Parallel.second in
     let e = ap (series_words g place) c.in-Parallel.ensures.tree ∙ series_parallel g place a b in
-    room_next (branch_words g Later b) (bracketed place Close) (room_next (branch_words g First a) (branch_words g Later b ++ bracketed place Close) (room_next (bracketed place AndOpen) (branch_words g First a ++ (branch_words g Later b ++ bracketed place Close)) (room_as e c.requires) c.bracket.ensures) c.emit-branches.ensures) c.emit-branches-in-Parallel.ensures
+    room_next (branch_words g Later b) (bracketed place Close) (room_next (branch_words g First a) (branch_words g Later b ++ bracketed place Close) (room_next (bracketed place AndOpen) (branch_words g First a ++ (branch_words g Later b ++ bracketed place Close)) (room_as e c.requires) c.bracket.ensures) c.emit_branches.ensures) c.emit_branches-in-Parallel.ensures
 
-pub emit-series-returns-in-Parallel : goal.emit-series-returns-in-Parallel
-emit-series-returns-in-Parallel t c =
+pub emit_series-returns-in-Parallel : goal.emit_series-returns-in-Parallel
+emit_series-returns-in-Parallel t c =
     let g = circuit c.args.rung.now in
     let ns = c.args.table.now.nodes in
     let place = c.args.place in
     let a = tree_at ns c.in-Parallel.first in
     let b = tree_at ns c.in-Parallel.second in
     let e = ap (series_words g place) c.in-Parallel.ensures.tree ∙ series_parallel g place a b in
-    adds_as e (then_adds c.bracket.ensures (then_adds c.emit-branches.ensures (then_adds c.emit-branches-in-Parallel.ensures c.bracket-in-Parallel.ensures)))
+    adds_as e (then_adds c.bracket.ensures (then_adds c.emit_branches.ensures (then_adds c.emit_branches-in-Parallel.ensures c.bracket-in-Parallel.ensures)))
 
-pub emit-branches-push-requires : goal.emit-branches-push-requires
-emit-branches-push-requires t c =
+pub emit_branches-push-requires : goal.emit_branches-push-requires
+emit_branches-push-requires t c =
     let g = circuit c.args.rung.now in
     let ns = c.args.table.now.nodes in
     let place = c.args.place in
     let e = ap (branch_words g place) c.in-Link.ensures.tree ∙ branch_link g place c.in-Link.link in
-    let k = ap (λ i. word_of i ∷ []) (c.in-branches.ensures ∙ ap (branch_contact place) c.contact-at.ensures) in
+    let k = ap (λ i. word_of i ∷ []) (c.in_branches.ensures ∙ ap (branch_contact place) c.contact_at.ensures) in
     room_as (e ∙ sym k) c.requires
 
-pub emit-branches-returns-in-Link : goal.emit-branches-returns-in-Link
-emit-branches-returns-in-Link t c =
+pub emit_branches-returns-in-Link : goal.emit_branches-returns-in-Link
+emit_branches-returns-in-Link t c =
     let g = circuit c.args.rung.now in
     let ns = c.args.table.now.nodes in
     let place = c.args.place in
     let e = ap (branch_words g place) c.in-Link.ensures.tree ∙ branch_link g place c.in-Link.link in
-    let k = ap (λ i. word_of i ∷ []) (c.in-branches.ensures ∙ ap (branch_contact place) c.contact-at.ensures) in
+    let k = ap (λ i. word_of i ∷ []) (c.in_branches.ensures ∙ ap (branch_contact place) c.contact_at.ensures) in
     adds_as (e ∙ sym k) c.push.ensures
 
-pub emit-branches-emit-branches-requires : goal.emit-branches-emit-branches-requires
-emit-branches-emit-branches-requires t c =
+pub emit_branches-emit_branches-requires : goal.emit_branches-emit_branches-requires
+emit_branches-emit_branches-requires t c =
     let g = circuit c.args.rung.now in
     let ns = c.args.table.now.nodes in
     let place = c.args.place in
@@ -134,28 +134,28 @@ emit-branches-emit-branches-requires t c =
     let e = ap (branch_words g place) c.in-Parallel.ensures.tree ∙ branch_parallel g place a b in
     (omega (arith, c.in-Parallel.ensures.below.0), room-first (branch_words g place a) (branch_words g Later b) (room_as e c.requires))
 
-pub emit-branches-emit-branches-requires-in-Parallel : goal.emit-branches-emit-branches-requires-in-Parallel
-emit-branches-emit-branches-requires-in-Parallel t c =
+pub emit_branches-emit_branches-requires-in-Parallel : goal.emit_branches-emit_branches-requires-in-Parallel
+emit_branches-emit_branches-requires-in-Parallel t c =
     let g = circuit c.args.rung.now in
     let ns = c.args.table.now.nodes in
     let place = c.args.place in
     let a = tree_at ns c.in-Parallel.first in
     let b = tree_at ns c.in-Parallel.second in
     let e = ap (branch_words g place) c.in-Parallel.ensures.tree ∙ branch_parallel g place a b in
-    (omega (arith, c.in-Parallel.ensures.below.1), room_next (branch_words g place a) (branch_words g Later b) (room_as e c.requires) c.emit-branches.ensures)
+    (omega (arith, c.in-Parallel.ensures.below.1), room_next (branch_words g place a) (branch_words g Later b) (room_as e c.requires) c.emit_branches.ensures)
 
-pub emit-branches-returns-in-Parallel : goal.emit-branches-returns-in-Parallel
-emit-branches-returns-in-Parallel t c =
+pub emit_branches-returns-in-Parallel : goal.emit_branches-returns-in-Parallel
+emit_branches-returns-in-Parallel t c =
     let g = circuit c.args.rung.now in
     let ns = c.args.table.now.nodes in
     let place = c.args.place in
     let a = tree_at ns c.in-Parallel.first in
     let b = tree_at ns c.in-Parallel.second in
     let e = ap (branch_words g place) c.in-Parallel.ensures.tree ∙ branch_parallel g place a b in
-    adds_as e (then_adds c.emit-branches.ensures c.emit-branches-in-Parallel.ensures)
+    adds_as e (then_adds c.emit_branches.ensures c.emit_branches-in-Parallel.ensures)
 
-pub emit-branches-bracket-requires : goal.emit-branches-bracket-requires
-emit-branches-bracket-requires t c =
+pub emit_branches-bracket-requires : goal.emit_branches-bracket-requires
+emit_branches-bracket-requires t c =
     let g = circuit c.args.rung.now in
     let ns = c.args.table.now.nodes in
     let place = c.args.place in
@@ -164,8 +164,8 @@ emit-branches-bracket-requires t c =
     let e = ap (branch_words g place) c.in-Series.ensures.tree ∙ branch_series g place a b in
     room-first (bracketed place OrOpen) (series_words g First a ++ (series_words g Later b ++ bracketed place Close)) (room_as e c.requires)
 
-pub emit-branches-emit-series-requires : goal.emit-branches-emit-series-requires
-emit-branches-emit-series-requires t c =
+pub emit_branches-emit_series-requires : goal.emit_branches-emit_series-requires
+emit_branches-emit_series-requires t c =
     let g = circuit c.args.rung.now in
     let ns = c.args.table.now.nodes in
     let place = c.args.place in
@@ -174,32 +174,32 @@ emit-branches-emit-series-requires t c =
     let e = ap (branch_words g place) c.in-Series.ensures.tree ∙ branch_series g place a b in
     (omega (arith, c.in-Series.ensures.below.0), room-first (series_words g First a) (series_words g Later b ++ bracketed place Close) (room_next (bracketed place OrOpen) (series_words g First a ++ (series_words g Later b ++ bracketed place Close)) (room_as e c.requires) c.bracket.ensures))
 
-pub emit-branches-emit-series-requires-in-Series : goal.emit-branches-emit-series-requires-in-Series
-emit-branches-emit-series-requires-in-Series t c =
+pub emit_branches-emit_series-requires-in-Series : goal.emit_branches-emit_series-requires-in-Series
+emit_branches-emit_series-requires-in-Series t c =
     let g = circuit c.args.rung.now in
     let ns = c.args.table.now.nodes in
     let place = c.args.place in
     let a = tree_at ns c.in-Series.first in
     let b = tree_at ns c.in-Series.second in
     let e = ap (branch_words g place) c.in-Series.ensures.tree ∙ branch_series g place a b in
-    (omega (arith, c.in-Series.ensures.below.1), room-first (series_words g Later b) (bracketed place Close) (room_next (series_words g First a) (series_words g Later b ++ bracketed place Close) (room_next (bracketed place OrOpen) (series_words g First a ++ (series_words g Later b ++ bracketed place Close)) (room_as e c.requires) c.bracket.ensures) c.emit-series.ensures))
+    (omega (arith, c.in-Series.ensures.below.1), room-first (series_words g Later b) (bracketed place Close) (room_next (series_words g First a) (series_words g Later b ++ bracketed place Close) (room_next (bracketed place OrOpen) (series_words g First a ++ (series_words g Later b ++ bracketed place Close)) (room_as e c.requires) c.bracket.ensures) c.emit_series.ensures))
 
-pub emit-branches-bracket-requires-in-Series : goal.emit-branches-bracket-requires-in-Series
-emit-branches-bracket-requires-in-Series t c =
+pub emit_branches-bracket-requires-in-Series : goal.emit_branches-bracket-requires-in-Series
+emit_branches-bracket-requires-in-Series t c =
     let g = circuit c.args.rung.now in
     let ns = c.args.table.now.nodes in
     let place = c.args.place in
     let a = tree_at ns c.in-Series.first in
     let b = tree_at ns c.in-Series.second in
     let e = ap (branch_words g place) c.in-Series.ensures.tree ∙ branch_series g place a b in
-    room_next (series_words g Later b) (bracketed place Close) (room_next (series_words g First a) (series_words g Later b ++ bracketed place Close) (room_next (bracketed place OrOpen) (series_words g First a ++ (series_words g Later b ++ bracketed place Close)) (room_as e c.requires) c.bracket.ensures) c.emit-series.ensures) c.emit-series-in-Series.ensures
+    room_next (series_words g Later b) (bracketed place Close) (room_next (series_words g First a) (series_words g Later b ++ bracketed place Close) (room_next (bracketed place OrOpen) (series_words g First a ++ (series_words g Later b ++ bracketed place Close)) (room_as e c.requires) c.bracket.ensures) c.emit_series.ensures) c.emit_series-in-Series.ensures
 
-pub emit-branches-returns-in-Series : goal.emit-branches-returns-in-Series
-emit-branches-returns-in-Series t c =
+pub emit_branches-returns-in-Series : goal.emit_branches-returns-in-Series
+emit_branches-returns-in-Series t c =
     let g = circuit c.args.rung.now in
     let ns = c.args.table.now.nodes in
     let place = c.args.place in
     let a = tree_at ns c.in-Series.first in
     let b = tree_at ns c.in-Series.second in
     let e = ap (branch_words g place) c.in-Series.ensures.tree ∙ branch_series g place a b in
-    adds_as e (then_adds c.bracket.ensures (then_adds c.emit-series.ensures (then_adds c.emit-series-in-Series.ensures c.bracket-in-Series.ensures)))
+    adds_as e (then_adds c.bracket.ensures (then_adds c.emit_series.ensures (then_adds c.emit_series-in-Series.ensures c.bracket-in-Series.ensures)))

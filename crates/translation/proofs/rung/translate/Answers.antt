@@ -5,8 +5,8 @@ use Rattle.wiring.specs.Circuit.{circuit}
 use Rattle.translation.proofs.Texts.{room_for}
 use Rattle.translation.proofs.rung.translate.Goals as goal
 
-pub draft-of-draft-requires : goal.draft-of-draft-requires
-draft-of-draft-requires c =
+pub draft_of-draft-requires : goal.draft_of-draft-requires
+draft_of-draft-requires c =
     let r = c.args.rung.now in
     let l = length-take r.link_count r.links in
     let k = length-take r.coil_count r.coils in

@@ -12,4 +12,4 @@ returns-in-None g c =
 pub returns-in-Some : goal.returns-in-Some
 returns-in-Some g c =
     let f = past g.B.Kind.Signal.kind (get_or c.args.self.now.marks c.args.index false) in
-    ap Some c.past-mark.ensures ∙ ap (option_map f) c.in-Some.ensures ∙ sym (slice_get-shown g.B.Kind.Signal.kind c.args.self.now.marks (g.B.Bank.points c.args.self.now.bank) c.args.index)
+    ap Some c.past_mark.ensures ∙ ap (option_map f) c.in-Some.ensures ∙ sym (slice_get-shown g.B.Kind.Signal.kind c.args.self.now.marks (g.B.Bank.points c.args.self.now.bank) c.args.index)

@@ -10,7 +10,7 @@ returns g c =
     let k = g.B.Kind.Signal.kind in
     let ms = c.args.self.now.marks in
     let xs = g.B.Bank.points c.args.self.now.bank in
-    let below = c.write.ensures.after ∙ ap (set xs c.args.index) c.past-mark-passed.ensures in
+    let below = c.write.ensures.after ∙ ap (set xs c.args.index) c.past_mark-passed.ensures in
     record {
       told = c.write.ensures.told ∙ ap (ltb c.args.index) (sym (length-shown k ms xs));
       after = ap (shown k ms) below ∙ set-shown k g.met.B.Kind.Signal.laws ms xs c.args.index c.args.signal;

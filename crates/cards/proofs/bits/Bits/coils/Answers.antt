@@ -12,19 +12,19 @@ pub loop-i-preserved : goal.loop-i-preserved
 loop-i-preserved c =
     let i = c.loop-i.i in
     let at = c.args.self.now.at in
-    let is : coil_at c.args.self.now.bytes.now (at + 12 * i) ≡ _ = sym (rw (c.loop-i.invariant.1, c.loop-i.invariant.0) at c.coil.ensures.value) ∙ c.in-ok-coil.was in (
-      omega (arith, c.in-ok-coil.ensures.after, c.loop-i.invariant.0),
+    let is : coil_at c.args.self.now.bytes.now (at + 12 * i) ≡ _ = sym (rw (c.loop-i.invariant.1, c.loop-i.invariant.0) at c.coil.ensures.value) ∙ c.in_ok-coil.was in (
+      omega (arith, c.in_ok-coil.ensures.after, c.loop-i.invariant.0),
       c.coil.ensures.same ∙ c.loop-i.invariant.1,
-      filled_more (coil_at c.args.self.now.bytes.now) 12 c.args.count at i c.loop-i.coils c.in-ok-coil.coil (omega arith) (omega arith) is c.loop-i.invariant.2,
-      length-set c.loop-i.coils i c.in-ok-coil.coil ∙ c.loop-i.invariant.3,
+      filled_more (coil_at c.args.self.now.bytes.now) 12 c.args.count at i c.loop-i.coils c.in_ok-coil.coil (omega arith) (omega arith) is c.loop-i.invariant.2,
+      length-set c.loop-i.coils i c.in_ok-coil.coil ∙ c.loop-i.invariant.3,
     )
 
-pub returns-in-err-coil : goal.returns-in-err-coil
-returns-in-err-coil c =
+pub returns-in_err-coil : goal.returns-in_err-coil
+returns-in_err-coil c =
     let i = c.loop-i.i in
     let at = c.args.self.now.at in
-    let is : coil_at c.args.self.now.bytes.now (at + 12 * i) ≡ _ = sym (rw (c.loop-i.invariant.1, c.loop-i.invariant.0) at c.coil.ensures.value) ∙ c.in-err-coil.was in
-    let out = err_from_is_err_and c.from-residual.result c.from-residual.ensures.1 in
+    let is : coil_at c.args.self.now.bytes.now (at + 12 * i) ≡ _ = sym (rw (c.loop-i.invariant.1, c.loop-i.invariant.0) at c.coil.ensures.value) ∙ c.in_err-coil.was in
+    let out = err_from_is_err_and c.from_residual.result c.from_residual.ensures.1 in
     record {
       value = took_fault _ (filled_fault (coil_at c.args.self.now.bytes.now) 12 c.args.count at i c.loop-i.coils _ (omega arith) is c.loop-i.invariant.2) out.1 out.2;
       after = free _ out.1;

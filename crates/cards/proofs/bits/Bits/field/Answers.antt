@@ -7,8 +7,8 @@ loop-i-init c =
     let e : c.args.self.now.at - c.args.self.now.at ≡ 0 = omega arith in
     rw e (sym (field-none _ _), lit< tt)
 
-pub overflow-add-value : goal.overflow-add-value
-overflow-add-value c =
+pub overflow_add-value : goal.overflow_add-value
+overflow_add-value c =
     let k = c.loop-i.i - c.args.self.now.at in
     let l = less_16 c.loop-i.value c.bit.result k c.loop-i.invariant.1 c.bit.ensures.small (omega arith) in
     omega arith

@@ -12,19 +12,19 @@ pub loop-i-preserved : goal.loop-i-preserved
 loop-i-preserved c =
     let i = c.loop-i.i in
     let at = c.args.self.now.at in
-    let is : link_at c.args.self.now.bytes.now c.args.joints (at + 22 * i) ≡ _ = sym (rw (c.loop-i.invariant.1, c.loop-i.invariant.0) at c.link.ensures.value) ∙ c.in-ok-link.was in (
-      omega (arith, c.in-ok-link.ensures.after, c.loop-i.invariant.0),
+    let is : link_at c.args.self.now.bytes.now c.args.joints (at + 22 * i) ≡ _ = sym (rw (c.loop-i.invariant.1, c.loop-i.invariant.0) at c.link.ensures.value) ∙ c.in_ok-link.was in (
+      omega (arith, c.in_ok-link.ensures.after, c.loop-i.invariant.0),
       c.link.ensures.same ∙ c.loop-i.invariant.1,
-      filled_more (link_at c.args.self.now.bytes.now c.args.joints) 22 c.args.count at i c.loop-i.links c.in-ok-link.link (omega arith) (omega arith) is c.loop-i.invariant.2,
-      length-set c.loop-i.links i c.in-ok-link.link ∙ c.loop-i.invariant.3,
+      filled_more (link_at c.args.self.now.bytes.now c.args.joints) 22 c.args.count at i c.loop-i.links c.in_ok-link.link (omega arith) (omega arith) is c.loop-i.invariant.2,
+      length-set c.loop-i.links i c.in_ok-link.link ∙ c.loop-i.invariant.3,
     )
 
-pub returns-in-err-link : goal.returns-in-err-link
-returns-in-err-link c =
+pub returns-in_err-link : goal.returns-in_err-link
+returns-in_err-link c =
     let i = c.loop-i.i in
     let at = c.args.self.now.at in
-    let is : link_at c.args.self.now.bytes.now c.args.joints (at + 22 * i) ≡ _ = sym (rw (c.loop-i.invariant.1, c.loop-i.invariant.0) at c.link.ensures.value) ∙ c.in-err-link.was in
-    let out = err_from_is_err_and c.from-residual.result c.from-residual.ensures.1 in
+    let is : link_at c.args.self.now.bytes.now c.args.joints (at + 22 * i) ≡ _ = sym (rw (c.loop-i.invariant.1, c.loop-i.invariant.0) at c.link.ensures.value) ∙ c.in_err-link.was in
+    let out = err_from_is_err_and c.from_residual.result c.from_residual.ensures.1 in
     record {
       value = took_fault _ (filled_fault (link_at c.args.self.now.bytes.now c.args.joints) 22 c.args.count at i c.loop-i.links _ (omega arith) is c.loop-i.invariant.2) out.1 out.2;
       after = free _ out.1;

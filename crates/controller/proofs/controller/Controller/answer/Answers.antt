@@ -22,9 +22,9 @@ returns-in-Err g c =
       untouched = ap g.B.Bank.rest h.bank;
     }
 
-pub returns-in-Ok-install-listing : goal.returns-in-Ok-install-listing
-returns-in-Ok-install-listing g c =
-    let h = c.in-Ok-install-listing.ensures in
+pub returns-in-Ok-install_listing : goal.returns-in-Ok-install_listing
+returns-in-Ok-install_listing g c =
+    let h = c.in-Ok-install_listing.ensures in
     record {
       step = as_given _ _ _ _ _ _ _ _ _ _ _ c.in-InstallListing.is (h.step c.args.buffer.now);
       work = λ _. refl;
@@ -32,9 +32,9 @@ returns-in-Ok-install-listing g c =
       untouched = ap g.B.Bank.rest h.bank;
     }
 
-pub returns-in-Err-install-listing : goal.returns-in-Err-install-listing
-returns-in-Err-install-listing g c =
-    let h = c.in-Err-install-listing.ensures in
+pub returns-in-Err-install_listing : goal.returns-in-Err-install_listing
+returns-in-Err-install_listing g c =
+    let h = c.in-Err-install_listing.ensures in
     record {
       step = as_given _ _ _ _ _ _ _ _ _ _ _ c.in-InstallListing.is (h.step c.args.buffer.now);
       work = λ _. refl;
@@ -42,9 +42,9 @@ returns-in-Err-install-listing g c =
       untouched = ap g.B.Bank.rest h.bank;
     }
 
-pub returns-in-Ok-set-input : goal.returns-in-Ok-set-input
-returns-in-Ok-set-input g c =
-    let h = c.in-Ok-set-input.ensures in
+pub returns-in-Ok-set_input : goal.returns-in-Ok-set_input
+returns-in-Ok-set_input g c =
+    let h = c.in-Ok-set_input.ensures in
     record {
       step = as_given _ _ _ _ _ _ _ _ _ _ _ c.in-SetInput.is (h.step c.args.buffer.now);
       work = λ _. refl;
@@ -52,9 +52,9 @@ returns-in-Ok-set-input g c =
       untouched = h.untouched;
     }
 
-pub returns-in-Err-set-input : goal.returns-in-Err-set-input
-returns-in-Err-set-input g c =
-    let h = c.in-Err-set-input.ensures in
+pub returns-in-Err-set_input : goal.returns-in-Err-set_input
+returns-in-Err-set_input g c =
+    let h = c.in-Err-set_input.ensures in
     record {
       step = as_given _ _ _ _ _ _ _ _ _ _ _ c.in-SetInput.is (h.step c.args.buffer.now);
       work = λ _. refl;
@@ -62,9 +62,9 @@ returns-in-Err-set-input g c =
       untouched = h.untouched;
     }
 
-pub returns-in-Ok-read-point : goal.returns-in-Ok-read-point
-returns-in-Ok-read-point g c =
-    let h = c.in-Ok-read-point.ensures in
+pub returns-in-Ok-read_point : goal.returns-in-Ok-read_point
+returns-in-Ok-read_point g c =
+    let h = c.in-Ok-read_point.ensures in
     record {
       step = as_given _ _ _ _ _ _ _ _ _ _ _ c.in-ReadPoint.is (h c.args.buffer.now);
       work = λ _. refl;
@@ -72,9 +72,9 @@ returns-in-Ok-read-point g c =
       untouched = refl;
     }
 
-pub returns-in-Err-read-point : goal.returns-in-Err-read-point
-returns-in-Err-read-point g c =
-    let h = c.in-Err-read-point.ensures in
+pub returns-in-Err-read_point : goal.returns-in-Err-read_point
+returns-in-Err-read_point g c =
+    let h = c.in-Err-read_point.ensures in
     record {
       step = as_given _ _ _ _ _ _ _ _ _ _ _ c.in-ReadPoint.is (h c.args.buffer.now);
       work = λ _. refl;
@@ -84,7 +84,7 @@ returns-in-Err-read-point g c =
 
 pub returns-in-Scan : goal.returns-in-Scan
 returns-in-Scan g c =
-    let h = c.scan-lent.ensures in
+    let h = c.scan_lent.ensures in
     record {
       step = as_given _ _ _ _ _ _ _ _ _ _ _ c.in-Scan.is (h.step c.args.buffer.now);
       work = λ q. h.work (no_scan_given _ _ _ _ _ c.in-Scan.is q);

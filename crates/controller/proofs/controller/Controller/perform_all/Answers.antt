@@ -22,5 +22,5 @@ returns g c =
       untouched = c.loop-i.invariant.2;
     }
 
-pub offset-bounds-answers-i : goal.offset-bounds-answers-i
-offset-bounds-answers-i g c = let h : c.loop-i.i < length c.args.answers.now = omega arith in search rules
+pub offset_bounds-answers-i : goal.offset_bounds-answers-i
+offset_bounds-answers-i g c = let h : c.loop-i.i < length c.args.answers.now = omega arith in search rules

@@ -4,7 +4,7 @@ use Rattle.controller.proofs.controller.Controller.perform_all.Given as goal
 
 abbrev pub invariant-loop-i : goal.invariant-loop-i
 invariant-loop-i g l =
-    Going g.Kind.Signal.kind g.B.Bank.points l.initial.self
+    Going g.B.Kind.Signal.kind g.B.Bank.points l.initial.self
     (record { work = l.initial.work; bytes = l.initial.buffer; answers = l.initial.answers }) l.calls l.i l.self
     (record { work = l.work; bytes = l.buffer; answers = l.answers })
     × (g.B.Bank.seat l.self.bank ≡ g.B.Bank.seat l.initial.self.bank)

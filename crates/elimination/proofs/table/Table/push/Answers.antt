@@ -2,8 +2,11 @@ use Rattle.std.proofs.Common.{refl, arith, rules}
 use Rattle.elimination.proofs.Falls.{falls_more, tree_same, tree_new}
 use Rattle.elimination.proofs.table.Table.push.Goals as goal
 
-pub invariant-of-self : goal.invariant-of-self
-invariant-of-self c = (falls_more c.args.self.now.nodes c.args.self.now.len c.args.node c.args.self.now.falls c.requires.falls, (omega arith, tt))
+pub invariant_of-self : goal.invariant_of-self
+invariant_of-self c = record {
+  falls = falls_more c.args.self.now.nodes c.args.self.now.len c.args.node c.args.self.now.falls c.requires.falls;
+  fits = omega arith;
+}
 
 pub returns : goal.returns
 returns c = record {

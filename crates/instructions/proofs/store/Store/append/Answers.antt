@@ -11,4 +11,4 @@ returns-then-words-start c =
 pub returns : goal.returns
 returns c =
     let l = length-take-le c.args.self.now.len c.args.self.now.words (omega arith) in
-    (omega arith, take_wrote c.write-all-self.ensures (omega arith))
+    (omega arith, take_wrote c.write_all-self.ensures (omega arith))

@@ -7,14 +7,15 @@ use Rattle.programs.proofs.draft.Draft.enter.Goals as goal
 pub bounds-self-at : goal.bounds-self-at
 bounds-self-at c = (stepped (place_of c.args.self.now.checker) (place_of c.args.checker) c.args.word c.requires).room
 
-pub invariant-of-self : goal.invariant-of-self
-invariant-of-self c =
+pub invariant_of-self : goal.invariant_of-self
+invariant_of-self c =
     let d = c.args.self.now in
     let p = place_of d.checker in
-    let q = place_of c.args.checker in (
-      leads_more d.words p q c.args.word (omega arith) d.leads c.requires,
-      (ap (take c.args.checker.rungs) c.note-start.ensures ∙ starts_more d.starts d.words p q c.args.word (omega arith) (omega arith) d.leads d.started c.requires, tt),
-    )
+    let q = place_of c.args.checker in
+    record {
+      leads = leads_more d.words p q c.args.word (omega arith) d.leads c.requires;
+      started = ap (take c.args.checker.rungs) c.note_start.ensures ∙ starts_more d.starts d.words p q c.args.word (omega arith) (omega arith) d.leads d.started c.requires;
+    }
 
 pub returns : goal.returns
 returns c =

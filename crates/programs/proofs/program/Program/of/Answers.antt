@@ -10,12 +10,12 @@ use Rattle.programs.proofs.program.Program.of.Goals as goal
 pub loop-word-init : goal.loop-word-init
 loop-word-init c = (ap (λ p. led (Ok p) c.args.words.now) c.new-draft.ensures.place, c.new-draft.ensures.words)
 
-pub returns-in-err-add : goal.returns-in-err-add
-returns-in-err-add c =
+pub returns-in_err-add : goal.returns-in_err-add
+returns-in_err-add c =
     let words = c.args.words.now in
-    let p = err_from_is_err_and c.from-residual.result c.from-residual.ensures.1 in
+    let p = err_from_is_err_and c.from_residual.result c.from_residual.ensures.1 in
     subst (λ r. Taken words (judged words) r) (sym (p.1 ∙ ap Err p.2))
-    (judged_refused words c.loop-word.word-index (standing c.loop-word.draft) c.in-err-add.field-0.0 (omega arith) c.loop-word.invariant.0 c.in-err-add.ensures.0)
+    (judged_refused words c.loop-word.word-index (standing c.loop-word.draft) c.in_err-add.field-0.0 (omega arith) c.loop-word.invariant.0 c.in_err-add.ensures.0)
 
 pub loop-word-preserved : goal.loop-word-preserved
 loop-word-preserved c =
@@ -23,7 +23,7 @@ loop-word-preserved c =
     let i = c.loop-word.word-index in
     let before = c.loop-word.draft in
     let after = c.add.new.self in
-    let a = c.in-ok-add.ensures in
+    let a = c.in_ok-add.ensures in
     (led-more words i (standing before) (standing after) (omega arith) c.loop-word.invariant.0 a.0, taken_more words i (drafted before) (drafted after) (omega arith) c.loop-word.invariant.1 a.1)
 
 pub returns : goal.returns
