@@ -14,7 +14,7 @@ use Rattle.wiring.specs.declared.rung.Action.{Action}
 use Rattle.wiring.specs.declared.rung.Action.TheVariants.{Store, StoreNot, Set, Reset}
 use Rattle.wiring.specs.declared.rung.Coil.{Coil}
 use Rattle.wiring.specs.Drawn.{between, drivable}
-use Rattle.cards.specs.Rungs.{point_of, contact_of, placed, link_of, action_of, coil_of}
+use Rattle.cards.specs.Rungs.{point_of, contact_of, link_of, action_of, coil_of}
 use Rattle.cards.specs.Encoding.{kind_code, contact_area, contact_number, action_code}
 use Rattle.cards.proofs.Limits.{no_none, chosen_some}
 

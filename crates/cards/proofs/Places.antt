@@ -1,6 +1,6 @@
 -- Where a bit stands, and a field one bit longer. Assumes nothing.
-use Rattle.std.proofs.Common.{◌≡◌, ℕ, zero, suc, ◌+◌, ◌-◌, ◌*◌, ◌/◌, ◌%◌, ◌^◌, ◌<◌, ◌≤◌, List, [], ◌∷◌, ◌++◌, length, get_or, take, drop, sym, refl, ap, ◌∙◌, subst, add-zero, zero-add, arith, length-drop, get_or-drop, pow_mono, pow-add}
-use Rattle.std.proofs.lemmas.List.{take_more, append_assoc}
+use Rattle.std.proofs.Common.{◌≡◌, ℕ, zero, suc, ◌+◌, ◌-◌, ◌*◌, ◌/◌, ◌%◌, ◌^◌, ◌<◌, ◌≤◌, List, [], ◌∷◌, ◌++◌, length, get_or, take, drop, refl, ap, ◌∙◌, zero-add, arith, length-drop, get_or-drop, pow_mono, pow-add}
+use Rattle.std.proofs.lemmas.List.{take_more}
 use Rattle.cards.specs.Bits.{byte_bits, bits, number_on, field_of}
 
 one : (b k : ℕ) (rest : List ℕ) → k < 8 → get_or (byte_bits b ++ rest) k 0 ≡ b / 2 ^ (7 - k) % 2

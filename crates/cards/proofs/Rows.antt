@@ -8,7 +8,6 @@ use Rattle.cards.specs.declared.fault.CardFault.{CardFault}
 use Rattle.cards.specs.Reading.{Took}
 use Rattle.cards.specs.Bits.{field_at}
 use Rattle.wiring.specs.declared.rung.Coil.{Coil}
-use Rattle.wiring.specs.Circuit.{Circuit}
 use Rattle.cards.specs.declared.sizes.Sizes.{Sizes}
 use Rattle.cards.specs.Rungs.{and_then, row_at, fault_at, contact_of, link_of, link_at, links_at, coils_at, sizes_at, rung_at}
 

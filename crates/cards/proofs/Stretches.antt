@@ -1,5 +1,5 @@
 -- Stretches of a card's bits, one behind the other, and the fields that they write.
-use Rattle.std.proofs.Common.{◌≡◌, ℕ, ◌+◌, ◌-◌, ◌*◌, ◌^◌, ◌<◌, ◌≤◌, leb, List, [], ◌++◌, length, take, drop, Ok, sym, refl, ap, ◌∙◌, subst, arith, length-append, length-drop, take-add}
+use Rattle.std.proofs.Common.{◌≡◌, ℕ, ◌+◌, ◌*◌, ◌^◌, ◌<◌, ◌≤◌, leb, List, [], ◌++◌, length, take, drop, Ok, sym, refl, ap, ◌∙◌, subst, arith, length-append, length-drop, take-add}
 use Rattle.std.proofs.lemmas.List.{append_cancel_left, drop-drop, take_at, drop_at, take-take, length-take-le, take-append-drop}
 use Rattle.std.proofs.lemmas.Bool.{leb-true, le-leb, cond-true}
 use Rattle.cards.specs.Bits.{bits, number_on, field_of, field_at}

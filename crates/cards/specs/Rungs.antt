@@ -1,7 +1,6 @@
 -- What the bits of a card say of a rung, field by field.
-use Rattle.std.specs.Prelude.{◌≡◌, ℕ, zero, suc, ◌+◌, ◌*◌, Bool, true, false, cond, ◌&&◌, List, [], ◌∷◌, length, Some, None, Ok, Err, Option, Result, ◌==◌, nat_le}
+use Rattle.std.specs.Prelude.{ℕ, zero, suc, ◌+◌, ◌*◌, Bool, cond, ◌&&◌, List, [], ◌∷◌, length, Some, None, Ok, Err, Option, Result, ◌==◌, nat_le}
 use Rattle.std.specs.Option.{option_map, ok_or}
-use Rattle.points.specs.declared.point.Area.{Area}
 use Rattle.points.specs.declared.point.Point.{Point}
 use Rattle.points.specs.Points.{area_of}
 use Rattle.wiring.specs.declared.rung.Contact.{Contact}

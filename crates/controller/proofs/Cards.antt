@@ -1,5 +1,5 @@
 -- An accepted card has rungs, and its words are their listings.
-use Rattle.std.proofs.Common.{◌≡◌, ℕ, ◌<◌, ◌⊎◌, List, [], ◌∷◌, ◌++◌, Ok, sym, refl, subst, inl, inr}
+use Rattle.std.proofs.Common.{ℕ, ◌<◌, List, [], ◌∷◌, Ok, sym, refl, subst, inl, inr}
 use Rattle.std.specs.List.{AllByRecursion as All}
 use Rattle.wiring.specs.declared.rung.Contact.{Contact}
 use Rattle.wiring.specs.declared.rung.Contact.TheVariants.{Wire, Open, Closed}
@@ -11,7 +11,7 @@ use Rattle.cards.specs.Encoding.{Drawable, contact_number}
 use Rattle.translation.specs.Acceptance.{Written, none, more}
 use Rattle.translation.specs.Judgement.{CardJudged}
 use Rattle.translation.proofs.Accepting.{accepted_exactly}
-use Rattle.scanning.specs.Listings.{Within, Numbered, Lists, Listings}
+use Rattle.scanning.specs.Listings.{Within, Numbered, Listings}
 use Rattle.controller.specs.Promise.{CardAccepted}
 
 -- what holds of all holds of a member

@@ -1,5 +1,5 @@
 -- Whole runs grow at their end.
-use Rattle.std.proofs.Common.{◌≡◌, ℕ, zero, suc, ◌+◌, ◌-◌, ◌<◌, ◌≤◌, min, List, [], ◌∷◌, ◌++◌, map, length, get_or, take, drop, set, Ok, Err, Result, sym, refl, ap, ◌∙◌, subst, arith, length-take-le, drop-drop, drop-set-lt, MatchResult}
+use Rattle.std.proofs.Common.{◌≡◌, ℕ, zero, suc, ◌+◌, ◌<◌, ◌≤◌, List, [], ◌∷◌, ◌++◌, map, length, get_or, take, drop, set, Ok, Err, Result, sym, refl, ap, ◌∙◌, subst, arith, length-take-le, drop-drop, drop-set-lt, MatchResult}
 use lib.Seq.{take-nil}
 use Rattle.std.proofs.lemmas.List.{get_or-map, length-map, take_all, take_more, take_more_set}
 use Rattle.signals.specs.Kind.{Kind}
@@ -9,7 +9,7 @@ use Rattle.controller.specs.declared.call.Answer.{Answer}
 use Rattle.controller.specs.declared.controller.Controller.{Controller}
 use Rattle.controller.specs.Promise.{State, Happens, Run, still, onwards}
 use Rattle.controller.specs.Runs.{Event, NoScan, Throughout}
-use Rattle.controller.specs.Standing.{Stands, Step, lending, paired, events_of, made, Ran, Lent, Performed, Performs, Declined, Operated}
+use Rattle.controller.specs.Standing.{Stands, Step, lending, paired, made, Lent, Performed, Performs, Declined, Operated}
 use Rattle.controller.proofs.Steps.{stands_same}
 use Rattle.controller.proofs.Laws.{run_program, run_points, run_bytes}
 

@@ -1,5 +1,5 @@
 -- The laws over whole runs: which program stands, and what changes points and lent bytes.
-use Rattle.std.proofs.Common.{◌≡◌, ℕ, ◌⊎◌, List, [], ◌∷◌, ◌++◌, sym, refl, ap, ◌∙◌, subst, inl, inr}
+use Rattle.std.proofs.Common.{◌≡◌, ℕ, ◌⊎◌, List, [], ◌∷◌, sym, refl, ap, ◌∙◌, subst, inl, inr}
 use Rattle.signals.specs.Kind.{Kind}
 use Rattle.programs.specs.Counts.{counts}
 use Rattle.controller.specs.declared.call.Call.{Call}

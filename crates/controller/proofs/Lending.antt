@@ -1,5 +1,5 @@
 -- Calls that are lent a part of the working signals or of the bytes.
-use Rattle.std.proofs.Common.{◌≡◌, ℕ, ◌-◌, ◌<◌, ◌≤◌, min, List, [], ◌∷◌, ◌++◌, length, take, drop, sym, refl, ap, ◌∙◌, subst, append_assoc, arith, length-append, take-append-drop, length-take}
+use Rattle.std.proofs.Common.{◌≡◌, ℕ, ◌-◌, ◌≤◌, min, List, ◌++◌, length, take, drop, sym, refl, ap, ◌∙◌, subst, append_assoc, arith, length-append, take-append-drop, length-take}
 use lib.Seq.{drop-append-le}
 use Rattle.signals.specs.Kind.{Kind}
 use Rattle.instructions.specs.Lines as lines
@@ -11,7 +11,7 @@ use Rattle.controller.specs.declared.call.Answer.{Answer}
 use Rattle.controller.specs.declared.controller.Controller.{Controller}
 use Rattle.controller.specs.Promise.{words_of, State, with_text, Happens, listing_short, listing-written, status_short, status_written}
 use Rattle.controller.specs.Runs.{NoScan}
-use Rattle.controller.specs.Standing.{Stands, Step, DryStep, lending}
+use Rattle.controller.specs.Standing.{Step, DryStep, lending}
 
 -- a part at the start has as many as were asked for, or all that there are
 pub part_length : {X : Type 0} (xs : List X) (m n : ℕ) → m ≡ min n (length xs) → length (take (m - 0) xs) ≡ min n (length xs)

@@ -1,5 +1,5 @@
 -- A scan, for every program that has the words scanned.
-use Rattle.std.proofs.Common.{◌≡◌, ℕ, List, [], ◌∷◌, sym, refl, subst}
+use Rattle.std.proofs.Common.{◌≡◌, ℕ, List, [], ◌∷◌, sym, subst}
 use Rattle.signals.specs.Kind.{Kind, Laws}
 use Rattle.wiring.specs.Circuit.{Circuit}
 use Rattle.wiring.specs.Value.{TwoSignals}
@@ -8,7 +8,7 @@ use Rattle.scanning.specs.Listings.{Listings, named}
 use Rattle.scanning.specs.Machine.{scanned}
 use Rattle.scanning.specs.Refusals.{KeptUnnamed}
 use Rattle.scanning.proofs.Receiving.{on_by_a_path}
-use Rattle.controller.specs.Promise.{Origin, from_card, from-listing, words_of, by_conduction, paths_kept, Scanned}
+use Rattle.controller.specs.Promise.{Origin, from_card, from-listing, words_of, by_conduction, Scanned}
 use Rattle.controller.specs.Standing.{ListedRight}
 
 module _ {S : Type 0} (k : Kind S) (laws : Laws k) where

@@ -24,7 +24,7 @@ use Rattle.controller.specs.declared.call.Call.TheVariants.{InstallCard, Install
 use Rattle.controller.specs.declared.call.Answer.{Answer}
 use Rattle.controller.specs.declared.call.Answer.TheVariants.{Installed, NotInstalled, Done, Signal, Refused, Wrote}
 use Rattle.controller.specs.declared.controller.Controller.{Controller}
-use Rattle.controller.specs.Promise.{Origin, from_card, from-listing, words_of, Scanned, State, with_points, with_program, with_text, Happens, card_small, card_refused, card, listing-small, listing_refused, listing, input_small, no_input, input, point_small, no_point, point, scan_small, few_signals, scan, listing_short, listing-written, status_short, status_written}
+use Rattle.controller.specs.Promise.{from_card, from-listing, words_of, Scanned, State, with_points, with_program, with_text, Happens, card_small, card_refused, card, listing-small, listing_refused, listing, input_small, no_input, input, point_small, no_point, point, scan_small, few_signals, scan, listing_short, listing-written, status_short, status_written}
 use Rattle.controller.specs.Standing.{Stands, Step, DryStep, writing}
 use Rattle.controller.proofs.Cards.{card_accepted}
 use Rattle.controller.proofs.Scans.{scanned_for}

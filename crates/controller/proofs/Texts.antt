@@ -1,5 +1,5 @@
 -- A text written into lent bytes, or refused.
-use Rattle.std.proofs.Common.{◌≡◌, ℕ, ◌<◌, ◌≤◌, Bool, true, false, cond, leb, List, ◌++◌, length, drop, Some, None, Ok, Err, Option, Result, sym, refl, ap, ◌∙◌, subst, arith, leb-false, leb-true, MatchResult}
+use Rattle.std.proofs.Common.{◌≡◌, ℕ, ◌<◌, ◌≤◌, Bool, true, false, cond, leb, List, ◌++◌, length, drop, Some, None, Ok, Err, Result, refl, arith, leb-false, leb-true, MatchResult}
 use Rattle.std.specs.Result.{result_ok}
 use Rattle.instructions.specs.declared.report.ShortBuffer.{ShortBuffer}
 use Rattle.instructions.specs.Reports.{Written}

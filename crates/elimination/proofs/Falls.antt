@@ -1,8 +1,8 @@
 -- In a table whose children lie lower, a position has the wiring of its node.
-use Rattle.std.proofs.Common.{◌≡◌, ℕ, zero, suc, ◌+◌, ◌<◌, ◌≤◌, Bool, true, false, ◌&&◌, ltb, ◌≢◌, List, [], ◌∷◌, length, get_or, set, sym, refl, ap, ◌∙◌, subst, add-zero, zero-add, arith}
+use Rattle.std.proofs.Common.{◌≡◌, ℕ, zero, suc, ◌+◌, ◌<◌, ◌≤◌, Bool, true, false, ◌&&◌, ◌≢◌, List, [], ◌∷◌, length, get_or, set, sym, refl, ap, ◌∙◌, subst, add-zero, zero-add, arith}
 use Rattle.std.proofs.lemmas.Bool.Decides.{nat_tests}
 use Rattle.std.proofs.lemmas.List.{get_or-set_same, get_or-set_other, get_or_past}
-use Rattle.wiring.specs.Wiring.{Wiring, link, series, parallel}
+use Rattle.wiring.specs.Wiring.{Wiring, link}
 use Rattle.elimination.specs.declared.table.Node.{Node}
 use Rattle.elimination.specs.declared.table.Node.TheVariants.{Link, Series, Parallel}
 use Rattle.elimination.specs.Trees.{below, Under, lower, formed, tree_of, tree_at}

@@ -1,6 +1,6 @@
 -- The deepest bracket of words, one word at a time.
-use Rattle.std.proofs.Common.{◌≡◌, ℕ, ◌+◌, ◌<◌, ◌≤◌, max, List, [], ◌∷◌, length, get_or, drop, sym, refl, ap, ◌∙◌, arith}
-use Rattle.std.proofs.lemmas.List.{at_drop_more, at_drop_all}
+use Rattle.std.proofs.Common.{◌≡◌, ℕ, ◌+◌, ◌<◌, ◌≤◌, max, List, [], ◌∷◌, length, get_or, drop, ap, arith}
+use Rattle.std.proofs.lemmas.List.{at_drop_more}
 use Rattle.instructions.specs.Words.{instruction_of}
 use Rattle.instructions.specs.Depth.{opened_if, deepest}
 

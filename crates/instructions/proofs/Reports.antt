@@ -1,8 +1,8 @@
 -- A text written into a lent buffer, or refused for want of room.
-use Rattle.std.proofs.Common.{◌≡◌, ℕ, ◌+◌, ◌<◌, ◌≤◌, Bool, true, false, cond, leb, List, [], ◌∷◌, ◌++◌, length, drop, Some, None, Ok, Err, Result, sym, refl, ap, ◌∙◌, arith}
+use Rattle.std.proofs.Common.{◌≡◌, ℕ, ◌<◌, ◌≤◌, true, false, cond, List, ◌++◌, length, drop, Some, None, Ok, Err, sym, ap, ◌∙◌, arith}
 use Rattle.std.proofs.lemmas.Bool.Decides.{nat_tests}
 use Rattle.instructions.specs.declared.report.ShortBuffer.{ShortBuffer}
-use Rattle.instructions.specs.Texts.{put, Wrote}
+use Rattle.instructions.specs.Texts.{Wrote}
 use Rattle.instructions.specs.Reports.{fits, Written}
 use Rattle.instructions.proofs.Texts.{put_from_start}
 

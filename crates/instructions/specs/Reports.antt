@@ -1,5 +1,5 @@
 -- The status line, the refusal line, and calls that write a text into a lent buffer.
-use Rattle.std.specs.Prelude.{◌≡◌, ℕ, Bool, cond, List, [], ◌∷◌, ◌++◌, length, drop, Some, None, codes, Option, Result, nat_le}
+use Rattle.std.specs.Prelude.{◌≡◌, ℕ, Bool, cond, List, [], ◌∷◌, ◌++◌, length, drop, Some, None, codes, Result, nat_le}
 use Rattle.std.specs.Result.{result_ok}
 use Rattle.instructions.specs.declared.report.ShortBuffer.{ShortBuffer}
 use Rattle.instructions.specs.Texts.{fields}

@@ -1,5 +1,5 @@
 -- Writing into a buffer, and numbers as text.
-use Rattle.std.specs.Prelude.{◌≡◌, ℕ, ◌+◌, List, [], ◌∷◌, ◌++◌, length, decimal, slice_set}
+use Rattle.std.specs.Prelude.{◌≡◌, ℕ, ◌+◌, List, [], ◌∷◌, length, decimal, slice_set}
 use Rattle.std.specs.List.{flat_map}
 
 -- a buffer with a text written from an index on, each item at the next one

@@ -1,8 +1,6 @@
 -- The 16-bit word of an instruction: operation 4 bits, area 2, number 10.
 use Rattle.std.specs.Prelude.{ℕ, ◌+◌, ◌*◌, ◌/◌, ◌%◌, cond, Some, None, Option, ◌==◌, nat_lt}
-use Rattle.points.specs.declared.point.Area.{Area}
 use Rattle.points.specs.declared.point.Area.TheVariants.{Input, Output, Marker}
-use Rattle.points.specs.declared.point.Point.{Point}
 use Rattle.points.specs.Points.{area_code}
 use Rattle.instructions.specs.declared.instruction.Operand.{Operand}
 use Rattle.instructions.specs.declared.instruction.Operand.TheVariants.{True, At}

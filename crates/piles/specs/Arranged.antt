@@ -1,5 +1,5 @@
 -- Arranging a pile: what a call answers, and what it leaves.
-use Rattle.std.specs.Prelude.{◌≡◌, ℕ, Bool, set, Ok, Err, Result, nat_lt, slice_set}
+use Rattle.std.specs.Prelude.{◌≡◌, ℕ, Bool, Ok, Err, Result, nat_lt, slice_set}
 use Rattle.banks.specs.declared.refusal.Refusal.{Refusal}
 use Rattle.banks.specs.Patches.{inputs, rewired}
 use Rattle.banks.specs.Refusals.{answered}

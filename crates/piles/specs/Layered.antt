@@ -1,5 +1,5 @@
 -- What a chosen layer shows, and how it is arranged.
-use Rattle.std.specs.Prelude.{◌≡◌, ℕ, ◌≤◌, Bool, List, [], length}
+use Rattle.std.specs.Prelude.{ℕ, ◌≤◌, Bool, List, [], length}
 use Rattle.signals.specs.Kind.{Kind}
 use Rattle.banks.specs.Layers.{board_shows, strip_shows}
 use Rattle.banks.specs.Short.{shown_short, patched_short}

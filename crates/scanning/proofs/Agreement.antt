@@ -1,5 +1,5 @@
 -- The scan of listings and the scan by paths leave the same points.
-use Rattle.std.proofs.Common.{◌≡◌, ℕ, List, [], ◌∷◌, ◌++◌, sym, refl, ap, ◌∙◌, subst}
+use Rattle.std.proofs.Common.{◌≡◌, ℕ, List, [], ◌∷◌, sym, ap, ◌∙◌, subst}
 use Rattle.signals.specs.Kind.{Kind, Laws}
 use Rattle.wiring.specs.Circuit.{Circuit, Reads}
 use Rattle.wiring.specs.Text.{link_text, text}
@@ -9,7 +9,7 @@ use Rattle.wiring.proofs.Paths.{paths_stand}
 use Rattle.wiring.proofs.Values.{value_of_paths, one_joining}
 use Rattle.translation.specs.Spelling.{spell, coil_words, rung_words}
 use Rattle.scanning.specs.ByPaths.{link_signal, Received, all-coiled, ByPaths}
-use Rattle.scanning.specs.Listings.{Numbered, Lists, Listings}
+use Rattle.scanning.specs.Listings.{Numbered, Listings}
 use Rattle.scanning.specs.Machine.{Machine, with_result, runs, fresh, scanned}
 use Rattle.scanning.proofs.Running.{runs_append}
 use Rattle.scanning.proofs.Texts.{coils_run, does}

@@ -1,10 +1,9 @@
 -- A card that is not refused means rungs, and its words are their listings.
-use Rattle.std.proofs.Common.{◌≡◌, ℕ, zero, suc, ◌+◌, List, [], ◌∷◌, ◌++◌, length, Ok, Err, Result, sym, refl, ap, ◌∙◌, subst, arith}
+use Rattle.std.proofs.Common.{◌≡◌, ℕ, ◌+◌, List, [], ◌∷◌, ◌++◌, length, Ok, Err, Result, sym, refl, ap, ◌∙◌, subst, arith}
 use Rattle.std.proofs.lemmas.List.{append_assoc, append-nil}
 use Rattle.signals.specs.Kind.{Kind, Laws}
 use Rattle.wiring.specs.Circuit.{Circuit}
-use Rattle.cards.specs.Rungs.{rung_at, rung_bits}
-use Rattle.cards.specs.Cards.{head_at, end_at}
+use Rattle.cards.specs.Rungs.{rung_bits}
 use Rattle.translation.specs.Translation.{Listed}
 use Rattle.translation.specs.Judgement.{Verdict, Judged, ended, trailed, misread, crossed, deep, long, taken, CardJudged, headless, headed}
 use Rattle.scanning.specs.ByPaths.{ByPaths}

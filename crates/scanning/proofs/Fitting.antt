@@ -1,5 +1,5 @@
 -- The brackets of words that keep the rules fit the working signals.
-use Rattle.std.proofs.Common.{◌≡◌, ℕ, suc, ◌+◌, ◌<◌, ◌≤◌, Bool, true, false, cond, ◌&&◌, ltb, ◌⊎◌, List, [], ◌∷◌, Some, None, Ok, Err, Option, Result, sym, refl, ap, ◌∙◌, subst, inl, inr, arith}
+use Rattle.std.proofs.Common.{◌≡◌, ℕ, ◌+◌, ◌<◌, ◌≤◌, Bool, true, false, cond, ◌&&◌, ltb, ◌⊎◌, List, [], ◌∷◌, Some, None, Ok, Err, Option, Result, sym, refl, ap, ◌∙◌, subst, inl, inr, arith}
 use Rattle.std.proofs.lemmas.Bool.Decides.{nat_tests, leb_tells}
 use Rattle.instructions.specs.declared.instruction.Instruction.{Instruction}
 use Rattle.instructions.specs.declared.instruction.Instruction.TheVariants.{Load, LoadNot, And, AndNot, Or, OrNot, AndOpen, OrOpen, Close, Store, StoreNot, Set, Reset}
@@ -9,7 +9,7 @@ use Rattle.programs.specs.declared.checker.State.{State}
 use Rattle.programs.specs.declared.checker.State.TheVariants.{Joining}
 use Rattle.programs.specs.declared.fault.RuleFault.{RuleFault}
 use Rattle.programs.specs.declared.fault.RuleFault.TheVariants.{TooDeep, TooManyRungs, TooLong}
-use Rattle.programs.specs.Rules.{Place, start, closes, when, next, starts_rung, counted, step_to, step, step_if, onward, led, judged_at, accepted, keeps}
+use Rattle.programs.specs.Rules.{Place, start, closes, when, next, counted, step_to, step, step_if, led, judged_at, accepted, keeps}
 use Rattle.programs.proofs.Rules.{led_refused}
 use Rattle.scanning.specs.Working.{roomy, roomy_if, fitting}
 

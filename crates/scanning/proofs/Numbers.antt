@@ -1,5 +1,5 @@
 -- Every point of a card has one of the 256 numbers of its area.
-use Rattle.std.proofs.Common.{◌≡◌, ℕ, zero, suc, ◌+◌, ◌*◌, ◌/◌, ◌%◌, ◌<◌, ◌≤◌, Bool, true, false, cond, ◌&&◌, eqb, leb, List, [], ◌∷◌, ◌++◌, length, take, drop, Some, None, Ok, Err, Option, Result, sym, refl, ap, ◌∙◌, subst, inl, inr, arith}
+use Rattle.std.proofs.Common.{◌≡◌, ℕ, zero, suc, ◌+◌, ◌*◌, ◌<◌, ◌≤◌, Bool, true, false, cond, ◌&&◌, eqb, leb, List, [], ◌∷◌, ◌++◌, length, take, drop, Some, None, Ok, Err, Option, Result, sym, refl, ap, subst, inl, inr, arith}
 use Rattle.std.specs.Option.{option_map, ok_or}
 use Rattle.points.specs.declared.point.Area.{Area}
 use Rattle.points.specs.declared.point.Point.{Point}
@@ -13,7 +13,7 @@ use Rattle.wiring.specs.Drawn.{between, drivable}
 use Rattle.wiring.specs.Lists.{In}
 use Rattle.cards.specs.declared.fault.CardFault.{CardFault}
 use Rattle.cards.specs.Bits.{byte_bits, bits, number_on, field_of, field_at}
-use Rattle.cards.specs.Rungs.{and_then, row_at, point_of, contact_of, placed, link_of, link_at, links_at, action_of, coil_of, coil_at, coils_at, sizes_at, rung_at}
+use Rattle.cards.specs.Rungs.{and_then, row_at, point_of, contact_of, link_of, link_at, links_at, action_of, coil_of, coil_at, coils_at, sizes_at, rung_at}
 use Rattle.scanning.specs.Listings.{Within, Numbered}
 
 -- each is a bit

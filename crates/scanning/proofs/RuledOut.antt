@@ -1,7 +1,6 @@
 -- What a scan never does.
-use Rattle.std.proofs.Common.{◌≡◌, ℕ, zero, suc, ◌<◌, ◌≢◌, ◌⊎◌, ◌↔◌, List, [], ◌∷◌, get_or, set, Some, sym, refl, ap, ◌∙◌, subst, inl, inr, ⊎_elim, arith}
+use Rattle.std.proofs.Common.{◌≡◌, ℕ, zero, suc, ◌<◌, ◌↔◌, List, [], ◌∷◌, get_or, set, Some, sym, refl, ap, subst, inl, inr, ⊎_elim, arith}
 use Rattle.std.specs.List.{slice_get}
-use Rattle.signals.specs.Kind.{Kind, Laws}
 use Rattle.signals.specs.Kinds.{either, plain}
 use Rattle.signals.specs.declared.plain.Plain.{Plain}
 use Rattle.signals.specs.declared.plain.Plain.TheVariants.{Off, On}
@@ -14,13 +13,10 @@ use Rattle.wiring.specs.declared.rung.Link.{Link}
 use Rattle.wiring.specs.Circuit.{ends, Reads}
 use Rattle.wiring.specs.Lists.{In}
 use Rattle.wiring.specs.Text.{link_text}
-use Rattle.wiring.specs.Wiring.{Wiring, link, Joint}
-use Rattle.wiring.proofs.Rules.{first_link}
-use Rattle.translation.specs.Spelling.{spell, coil_words, rung_words}
-use Rattle.scanning.specs.ByPaths.{ByPaths}
+use Rattle.wiring.specs.Wiring.{link, Joint}
 use Rattle.scanning.specs.Listings.{Within, Numbered, Listings}
 use Rattle.scanning.specs.Machine.{Machine, acts, scanned}
-use Rattle.scanning.specs.RuledOut.{self_feeding, self_feeding_words, both_fed, FedAlike}
+use Rattle.scanning.specs.RuledOut.{self_feeding, self_feeding_words, FedAlike}
 use Rattle.scanning.proofs.Agreement.{scans_agree, one_outcome}
 
 only_link : (i : ℕ) → In i (0 ∷ []) ↔ (i < 1)

@@ -1,5 +1,5 @@
 -- The words of a wiring's text make its signal the result.
-use Rattle.std.proofs.Common.{◌≡◌, ℕ, zero, suc, ◌<◌, List, [], ◌∷◌, ◌++◌, get_or, sym, refl, ap, ◌∙◌, subst, inl, inr}
+use Rattle.std.proofs.Common.{◌≡◌, ℕ, zero, suc, ◌<◌, List, [], ◌∷◌, ◌++◌, get_or, refl, ap, ◌∙◌, inl, inr}
 use Rattle.std.proofs.lemmas.List.{map-append}
 use Rattle.signals.specs.Kind.{Kind, Laws}
 use Rattle.instructions.specs.declared.instruction.Operand.TheVariants.{At}
@@ -21,7 +21,7 @@ use Rattle.wiring.proofs.Rules.{first_link, first_series, first_parallel, and_li
 use Rattle.translation.specs.Spelling.{loading, anding, oring, acting, coiling, spelled, spell, coil_words}
 use Rattle.scanning.specs.ByPaths.{passed, link_signal, all-coiled}
 use Rattle.scanning.specs.Listings.{Within, Numbered}
-use Rattle.scanning.specs.Machine.{Machine, with_result, with_points, set_aside, coiled, acts, runs}
+use Rattle.scanning.specs.Machine.{Machine, with_result, with_points, coiled, acts, runs}
 use Rattle.scanning.proofs.Running.{runs_append, runs_word}
 
 -- what holds of every link of a list and of a bare one holds at every number

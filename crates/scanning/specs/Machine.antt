@@ -1,5 +1,5 @@
 -- The words machine: what words make of the points, for any kind of signal.
-use Rattle.std.specs.Prelude.{ℕ, List, [], ◌∷◌, set, Some, None, Option, slice_index_or, slice_set}
+use Rattle.std.specs.Prelude.{ℕ, List, [], ◌∷◌, Some, None, Option, slice_index_or, slice_set}
 use Rattle.signals.specs.Kind.{Kind}
 use Rattle.points.specs.declared.point.Point.{Point}
 use Rattle.points.specs.Points.{index_of}

@@ -1,13 +1,13 @@
 -- The verdict on a card, one rung at a time.
-use Rattle.std.proofs.Common.{◌≡◌, ℕ, ◌+◌, ◌-◌, ◌<◌, ◌≤◌, Bool, true, false, List, [], ◌∷◌, ◌++◌, length, Some, None, Ok, Err, Option, Result, sym, refl, ap, ◌∙◌, subst, arith}
+use Rattle.std.proofs.Common.{◌≡◌, ℕ, ◌+◌, Bool, false, List, [], Some, None, Ok, Err, Option, Result, sym, refl, ap, ◌∙◌, subst, arith}
 use Rattle.instructions.specs.declared.store.Store.{Store}
 use Rattle.instructions.specs.Stores.{stored}
 use Rattle.wiring.specs.declared.rung.Rung.{Rung}
-use Rattle.wiring.specs.Circuit.{Circuit, circuit}
+use Rattle.wiring.specs.Circuit.{circuit}
 use Rattle.cards.specs.declared.fault.CardFault.{CardFault}
 use Rattle.cards.specs.declared.progress.Progress.{Progress}
 use Rattle.cards.specs.Rungs.{rung_at, rung_bits}
-use Rattle.cards.specs.Cards.{head_at, end_at, progress_rung, HeadRead, RungRead}
+use Rattle.cards.specs.Cards.{end_at, progress_rung, HeadRead, RungRead}
 use Rattle.translation.specs.declared.rung_fault.RungFault.{RungFault}
 use Rattle.translation.specs.declared.rung_fault.RungFault.TheVariants.{NotSeriesParallel, TooDeep, TooLong}
 use Rattle.translation.specs.declared.ladder_fault.InRung.{InRung}
@@ -16,7 +16,7 @@ use Rattle.translation.specs.declared.ladder_fault.LadderFault.{LadderFault}
 use Rattle.translation.specs.declared.ladder_fault.LadderFault.TheVariants as ladder
 use Rattle.translation.specs.Faults.{in_rung, at_rung}
 use Rattle.translation.specs.Translation.{Translated}
-use Rattle.translation.specs.Judgement.{Verdict, unread, unfit, Judged, ended, trailed, misread, crossed, deep, long, taken, CardJudged, headless, headed, JudgedFrom, Stepped, Told}
+use Rattle.translation.specs.Judgement.{Verdict, unfit, Judged, ended, trailed, misread, crossed, deep, long, taken, CardJudged, headless, headed, JudgedFrom, Stepped, Told}
 
 pub no_ok : {A E : Type 0} {x : A} {e : E} → ◌≡◌ {A = Result A E} (Ok x) (Err e) → ⊥
 no_ok p = let z : ◌≡◌ {A = ℕ} 0 1 = cc in omega arith

@@ -1,11 +1,10 @@
 -- The words of a card's rungs keep the rules of a program.
-use Rattle.std.proofs.Common.{◌≡◌, ℕ, zero, suc, ◌+◌, ◌-◌, ◌<◌, ◌≤◌, max, Bool, true, false, cond, ◌&&◌, eqb, ltb, ◌⊎◌, List, [], ◌∷◌, ◌++◌, map, length, get_or, Some, None, Ok, Err, Result, sym, refl, ap, ◌∙◌, subst, inl, inr, arith, lit≤}
+use Rattle.std.proofs.Common.{◌≡◌, ℕ, zero, suc, ◌+◌, ◌-◌, ◌<◌, ◌≤◌, max, Bool, true, false, cond, ◌&&◌, eqb, ltb, ◌⊎◌, List, [], ◌∷◌, ◌++◌, length, get_or, Some, Ok, Err, Result, sym, refl, ap, ◌∙◌, subst, inl, inr, arith, lit≤}
 use Rattle.std.proofs.lemmas.Bool.Decides.{nat_tests, leb_tells}
 use Rattle.std.proofs.lemmas.List.{append_assoc, append-nil, length-append, length-map}
 use Rattle.points.specs.declared.point.Area.{Area}
 use Rattle.points.specs.declared.point.Area.TheVariants.{Input, Output, Marker}
 use Rattle.points.specs.declared.point.Point.{Point}
-use Rattle.instructions.specs.declared.instruction.Operand.{Operand}
 use Rattle.instructions.specs.declared.instruction.Operand.TheVariants.{True, At}
 use Rattle.instructions.specs.declared.instruction.Instruction.{Instruction}
 use Rattle.instructions.specs.declared.instruction.Instruction.TheVariants.{Load, LoadNot, And, AndNot, Or, OrNot, AndOpen, OrOpen, Close, Store, StoreNot, Set, Reset}
@@ -18,7 +17,7 @@ use Rattle.programs.specs.declared.checker.State.{State}
 use Rattle.programs.specs.declared.checker.State.TheVariants.{Begun, Opened, Joining, Stored}
 use Rattle.programs.specs.declared.fault.RuleFault.{RuleFault}
 use Rattle.programs.specs.declared.fault.RuleFault.TheVariants.{Unfinished}
-use Rattle.programs.specs.Rules.{Place, start, loads, joins, drives_area, when, next, starts_rung, counted, step_to, step, step_if, onward, led, ends, concluded, judged_at, judged, accepted, keeps}
+use Rattle.programs.specs.Rules.{Place, start, loads, joins, drives_area, when, next, starts_rung, counted, step_to, step, step_if, onward, led, ends, judged_at, judged, accepted, keeps}
 use Rattle.programs.proofs.Rules.{led-append}
 use Rattle.wiring.specs.declared.rung.Action.{Action}
 use Rattle.wiring.specs.declared.rung.Action.TheVariants as action
@@ -37,7 +36,6 @@ use Rattle.cards.specs.Encoding.{contact_number, Drawable}
 use Rattle.cards.proofs.RungBits.{rung_read}
 use Rattle.std.specs.List.{AllByRecursion as All}
 use Rattle.wiring.specs.declared.rung.Link.{Link}
-use Rattle.translation.specs.Translation.{Listed}
 use Rattle.translation.specs.Judgement.{Verdict, Judged, ended, trailed, misread, crossed, deep, long, taken, CardJudged, headless, headed}
 use Rattle.translation.specs.declared.emitters.Place.TheVariants.{First, Later}
 use Rattle.translation.specs.Spelling.{loading, anding, oring, acting, coiling, coil_words, rung_words}

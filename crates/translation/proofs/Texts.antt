@@ -1,16 +1,16 @@
 -- The words of a part, made of the words of its own parts.
-use Rattle.std.proofs.Common.{◌≡◌, ℕ, ◌+◌, ◌≤◌, List, [], ◌∷◌, ◌++◌, map, length, sym, refl, ap, ◌∙◌, subst, arith}
+use Rattle.std.proofs.Common.{◌≡◌, ℕ, ◌≤◌, List, [], ◌∷◌, ◌++◌, length, sym, refl, ap, ◌∙◌, subst, arith}
 use Rattle.std.proofs.lemmas.List.{append_assoc, append-nil, length-append, length-map, map-append}
 use Rattle.instructions.specs.declared.instruction.Instruction.TheVariants.{AndOpen, OrOpen, Close}
 use Rattle.instructions.specs.Words.{word_of}
 use Rattle.wiring.specs.Circuit.{Circuit, link_at}
-use Rattle.wiring.specs.Text.{Word, and_open, or_open, close, Text, in_series, in_parallel, link_text, text}
+use Rattle.wiring.specs.Text.{Word, and_open, or_open, close, in_series, in_parallel, link_text, text}
 use Rattle.wiring.specs.Wiring.{Wiring, link, series, parallel, leaves}
 use Rattle.wiring.proofs.Lengths.{text_short}
 use Rattle.translation.specs.declared.emitters.Place.{Place}
 use Rattle.translation.specs.declared.emitters.Place.TheVariants.{First, Later}
 use Rattle.translation.specs.Spelling.{spelled, spell, coiling, coil_words, rung_words}
-use Rattle.translation.specs.Drafts.{series_text, branches_text, series_words, branch_words, series_contact, branch_contact, bracketed, Room, Adds}
+use Rattle.translation.specs.Drafts.{series_words, branch_words, series_contact, branch_contact, bracketed, Room, Adds}
 
 -- one row of words after another
 pub then_adds : {before us mid vs after : List ℕ} → Adds before us mid → Adds mid vs after → Adds before (us ++ vs) after

@@ -1,5 +1,5 @@
 -- What a card is judged to be, in bit order: the words of its rungs, or the one refusal.
-use Rattle.std.specs.Prelude.{◌≡◌, ℕ, ◌+◌, ◌<◌, ◌≤◌, Bool, true, false, List, [], ◌∷◌, ◌++◌, length, Ok, Err, Result}
+use Rattle.std.specs.Prelude.{◌≡◌, ℕ, ◌+◌, ◌<◌, ◌≤◌, Bool, true, false, List, [], ◌++◌, length, Ok, Err, Result}
 use Rattle.instructions.specs.declared.store.Store.{Store}
 use Rattle.instructions.specs.Stores.{stored}
 use Rattle.programs.specs.declared.program.Program.{Program}

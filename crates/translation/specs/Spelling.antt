@@ -1,5 +1,5 @@
 -- The listing of a rung: the text of its wiring, spelled with its contacts, and then its coils.
-use Rattle.std.specs.Prelude.{ℕ, List, [], ◌∷◌, ◌++◌, map}
+use Rattle.std.specs.Prelude.{ℕ, List, ◌++◌, map}
 use Rattle.wiring.specs.declared.rung.Contact.{Contact}
 use Rattle.wiring.specs.declared.rung.Contact.TheVariants.{Wire, Open, Closed}
 use Rattle.wiring.specs.declared.rung.Action.{Action}

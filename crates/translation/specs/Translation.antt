@@ -1,5 +1,5 @@
 -- What the translation of a rung answers and leaves.
-use Rattle.std.specs.Prelude.{◌≡◌, ℕ, ◌+◌, ◌<◌, ◌≤◌, List, ◌++◌, length, Ok, Err, Result}
+use Rattle.std.specs.Prelude.{◌≡◌, ℕ, ◌+◌, ◌≤◌, List, ◌++◌, length, Ok, Err, Result}
 use Rattle.instructions.specs.declared.store.Store.{Store}
 use Rattle.instructions.specs.Depth.{depth}
 use Rattle.instructions.specs.Stores.{stored}

@@ -1,5 +1,5 @@
 -- Texts and rising groups of edges.
-use Rattle.std.proofs.Common.{◌≡◌, ℕ, ◌<◌, min, ◌⊎◌, List, [], ◌∷◌, ◌++◌, sym, refl, ap, ◌∙◌, subst, ap₂, inl, inr, ⊎_elim, append_assoc, arith}
+use Rattle.std.proofs.Common.{◌≡◌, ℕ, ◌<◌, min, List, [], ◌∷◌, ◌++◌, sym, refl, ap, ◌∙◌, subst, ap₂, inl, inr, ⊎_elim, append_assoc, arith}
 use Rattle.wiring.specs.Lists.{In}
 use Rattle.wiring.specs.Wiring.{Wiring, link, series, parallel, leaves, Runs}
 use Rattle.wiring.specs.Text.{and_open, or_open, close, Text, in_series, in_parallel, link_text, text, branches, Ordered}

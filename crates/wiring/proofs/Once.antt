@@ -1,5 +1,5 @@
 -- In a wiring with its branches in order no leaf stands twice.
-use Rattle.std.proofs.Common.{◌≡◌, ℕ, ◌<◌, ◌≢◌, ◌⊎◌, sym, refl, ap, ◌∙◌, inl, inr, ⊎_elim, arith}
+use Rattle.std.proofs.Common.{◌≡◌, ℕ, ◌<◌, ◌≢◌, sym, refl, ap, ◌∙◌, inl, inr, ⊎_elim, arith}
 use Rattle.wiring.specs.Lists.{In, Distinct}
 use Rattle.wiring.specs.Wiring.{Wiring, link, series, parallel, leaves, Runs}
 use Rattle.wiring.specs.Text.{Text, branches, Ordered}

@@ -1,5 +1,5 @@
 -- The signal of a wiring is the joining over its paths; with two signals it is on by a path whose links are all on.
-use Rattle.std.proofs.Common.{◌≡◌, ℕ, ◌⊎◌, ◌↔◌, List, [], ◌∷◌, ◌++◌, sym, refl, ap, ◌∙◌, subst, ap₂, inl, inr, ⊎_elim}
+use Rattle.std.proofs.Common.{◌≡◌, ℕ, ◌↔◌, List, [], ◌∷◌, ◌++◌, sym, refl, ap, ◌∙◌, subst, ap₂, inl, inr, ⊎_elim}
 use Rattle.signals.specs.Kind.{Kind, Laws}
 use Rattle.wiring.specs.Circuit.{Circuit, Reads}
 use Rattle.wiring.specs.Lists.{In, Distinct}

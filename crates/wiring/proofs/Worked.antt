@@ -1,11 +1,11 @@
 -- What the definitions make of the two worked circuits.
-use Rattle.std.proofs.Common.{◌≡◌, ℕ, zero, suc, ◌<◌, min, ◌≢◌, ◌⊎◌, List, [], ◌∷◌, sym, refl, ap, ◌∙◌, subst, inl, inr, ⊎_elim, arith}
-use Rattle.wiring.specs.Circuit.{Circuit, ends, Reads, SeriesParallel}
-use Rattle.wiring.specs.Elimination.{Edge, Eligible, edge_of, first-edges, Starts}
+use Rattle.std.proofs.Common.{◌≡◌, ℕ, zero, suc, ◌<◌, ◌≢◌, ◌⊎◌, List, [], ◌∷◌, sym, refl, ap, ◌∙◌, inl, inr, ⊎_elim, arith}
+use Rattle.wiring.specs.Circuit.{Circuit, ends, SeriesParallel}
+use Rattle.wiring.specs.Elimination.{Eligible, edge_of, first-edges, Starts}
 use Rattle.wiring.specs.Lists.{In, Distinct}
 use Rattle.wiring.specs.Text.{in_series, in_parallel, link_text, text, branches}
 use Rattle.wiring.specs.Theorems.{WorkedCircuits}
-use Rattle.wiring.specs.Wiring.{Wiring, link, series, parallel, leaves, Joint, Runs}
+use Rattle.wiring.specs.Wiring.{link, series, Joint, Runs}
 use Rattle.wiring.specs.Worked.{detour, detour_wiring, bridge}
 use Rattle.wiring.proofs.Circuits.{starts, reading}
 use Rattle.wiring.proofs.Uniqueness.{never_stuck}

@@ -1,5 +1,5 @@
 -- A circuit: what a drawn rung means, and the wirings that read it.
-use Rattle.std.specs.Prelude.{◌≡◌, ℕ, ◌-◌, ◌<◌, ◌↔◌, List, length, take, slice_index_or}
+use Rattle.std.specs.Prelude.{ℕ, ◌-◌, ◌<◌, ◌↔◌, List, length, take, slice_index_or}
 use Rattle.wiring.specs.declared.rung.Coil.{Coil}
 use Rattle.wiring.specs.declared.rung.Contact.TheVariants.{Wire}
 use Rattle.wiring.specs.declared.rung.Link.{Link}

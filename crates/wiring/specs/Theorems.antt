@@ -5,7 +5,7 @@ use Rattle.wiring.specs.Circuit.{Circuit, Reads, SeriesParallel}
 use Rattle.wiring.specs.Lists.{In}
 use Rattle.wiring.specs.Paths.{AllPaths}
 use Rattle.wiring.specs.Text.{link_text, text}
-use Rattle.wiring.specs.Value.{value, along, over_all, TwoSignals}
+use Rattle.wiring.specs.Value.{value, over_all, TwoSignals}
 use Rattle.wiring.specs.Wiring.{Wiring, paths}
 use Rattle.wiring.specs.Worked.{detour, detour_wiring, detour-text, bridge}
 

@@ -1,9 +1,9 @@
 -- What the definitions make of the worked cards, rungs and lines.
-use Rattle.std.proofs.Common.{◌≡◌, ℕ, zero, suc, ◌<◌, ◌≤◌, ◌⊎◌, List, [], ◌∷◌, ◌++◌, Ok, Err, sym, refl, ap, ◌∙◌, inl, inr, ⊎_elim, arith, lit<, lit≤}
+use Rattle.std.proofs.Common.{◌≡◌, ℕ, zero, suc, ◌<◌, ◌⊎◌, List, [], ◌∷◌, ◌++◌, Ok, sym, refl, ap, ◌∙◌, inl, inr, ⊎_elim, arith, lit<, lit≤}
 use Rattle.std.specs.Fmt.{digits}
 use Rattle.wiring.specs.Circuit.{Circuit, ends, Reads}
 use Rattle.wiring.specs.Lists.{In, Distinct}
-use Rattle.wiring.specs.Text.{in_series, in_parallel, link_text, text, Text}
+use Rattle.wiring.specs.Text.{in_series, in_parallel, link_text, Text}
 use Rattle.wiring.specs.Wiring.{Wiring, link, series, parallel, Joint, Runs}
 use Rattle.wiring.specs.Worked.{detour, detour_wiring, bridge}
 use Rattle.wiring.proofs.Circuits.{one_text}
@@ -13,8 +13,8 @@ use Rattle.cards.specs.Rungs.{fault_at}
 use Rattle.cards.specs.declared.fault.CardCause.TheVariants.{EndsEarly}
 use Rattle.translation.specs.Spelling.{spell, coil_words, rung_words}
 use Rattle.translation.specs.Translation.{Listed}
-use Rattle.translation.specs.Judgement.{CardJudged, headless, headed, Judged, ended, misread, crossed, taken}
-use Rattle.worked.specs.Examples.{latch, latch_card, latch_words, detour_words, WorkedExamples}
+use Rattle.translation.specs.Judgement.{headed, ended, misread, crossed, taken}
+use Rattle.worked.specs.Examples.{latch, latch_words, detour_words, WorkedExamples}
 
 -- links 0 and 1 are branches, and link 2 follows
 latch_wiring : Wiring ℕ

@@ -4,8 +4,6 @@ use Rattle.points.specs.declared.point.Area.TheVariants.{Input, Output, Marker}
 use Rattle.points.specs.declared.point.Point.{Point}
 use Rattle.wiring.specs.declared.rung.Action.TheVariants as action
 use Rattle.wiring.specs.declared.rung.Contact.TheVariants.{Open, Closed}
-use Rattle.wiring.specs.declared.rung.Link.{Link}
-use Rattle.wiring.specs.declared.rung.Coil.{Coil}
 use Rattle.wiring.specs.Circuit.{Circuit, SeriesParallel}
 use Rattle.wiring.specs.Worked.{detour, bridge}
 use Rattle.instructions.specs.declared.instruction.Operand.TheVariants.{At}

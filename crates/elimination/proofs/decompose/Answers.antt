@@ -1,4 +1,4 @@
-use Rattle.std.proofs.Common.{length, sym, refl, ap, ◌∙◌, arith}
+use Rattle.std.proofs.Common.{length, refl, ap, arith}
 use Rattle.wiring.specs.Circuit.{circuit}
 use Rattle.elimination.proofs.Answering.{answer_found, answer_none, answer_refused, range_drawn}
 use Rattle.elimination.proofs.Edges.{live_parts}

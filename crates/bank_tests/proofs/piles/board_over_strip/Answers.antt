@@ -1,4 +1,4 @@
-use Rattle.std.proofs.Common.{◌≡◌, ℕ, cond, ltb, length, Some, None, sym, ap, ◌∙◌}
+use Rattle.std.proofs.Common.{ℕ, cond, ltb, length, Some, None, ap, ◌∙◌}
 use Rattle.banks.specs.Marks.{shown}
 use Rattle.banks.specs.Short.{length-shown, length-patched}
 use Rattle.bank_tests.proofs.piles.board_over_strip.Goals as goal

@@ -1,4 +1,4 @@
-use Rattle.std.proofs.Common.{◌≡◌, ℕ, cond, ltb, length, Some, None, sym, ap, ◌∙◌}
+use Rattle.std.proofs.Common.{ℕ, cond, ltb, length, Some, None, ap, ◌∙◌}
 use Rattle.banks.specs.Patches.{patched}
 use Rattle.banks.specs.Short.{length-shown, length-patched}
 use Rattle.bank_tests.proofs.piles.strip_over_board.Goals as goal

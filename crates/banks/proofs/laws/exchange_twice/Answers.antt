@@ -1,4 +1,4 @@
-use Rattle.std.proofs.Common.{◌≡◌, ap, ◌∙◌}
+use Rattle.std.proofs.Common.{ap, ◌∙◌}
 use Rattle.banks.specs.Patches.{rewired, patched}
 use Rattle.banks.proofs.Patching.{rewired_twice}
 use Rattle.banks.proofs.laws.exchange_twice.Goals as goal

@@ -1,4 +1,4 @@
-use Rattle.std.proofs.Common.{◌+◌, ◌*◌, ◌/◌, sym, ◌∙◌, arith}
+use Rattle.std.proofs.Common.{◌+◌, ◌*◌, ◌/◌, sym, ◌∙◌}
 use Rattle.cards.proofs.Endings.{zero_more, one_found}
 use Rattle.cards.proofs.card.read_end.Goals as goal
 

@@ -1,5 +1,5 @@
-use Rattle.std.proofs.Common.{◌<◌, sym, refl, ap, ◌∙◌, subst, arith, rules}
-use Rattle.elimination.specs.declared.slots.Side.TheVariants.{Entering, Leaving}
+use Rattle.std.proofs.Common.{arith}
+use Rattle.elimination.specs.declared.slots.Side.TheVariants.{Leaving}
 use Rattle.elimination.proofs.Edges.{stands_grown, live_parts, touch-grown}
 use Rattle.elimination.proofs.Merging.{a_group, some_into, some_out, merged}
 use Rattle.elimination.proofs.groups.merge.Goals as goal

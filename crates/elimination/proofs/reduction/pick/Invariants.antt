@@ -1,4 +1,4 @@
-use Rattle.std.proofs.Common.{◌≡◌, ℕ, ◌<◌, true, false, get_or, None}
+use Rattle.std.proofs.Common.{◌≡◌, ℕ, ◌<◌, false, get_or, None}
 use Rattle.elimination.specs.Reduction.{candidate_of}
 use Rattle.elimination.proofs.reduction.pick.Given as goal
 

@@ -1,4 +1,4 @@
-use Rattle.std.proofs.Common.{◌<◌, length, arith, rules}
+use Rattle.std.proofs.Common.{◌<◌, length, arith}
 use Rattle.elimination.proofs.Picking.{picked_may, picked_left}
 use Rattle.elimination.proofs.Reducing.{work_start, work_more, fewer, turn_refused, gone_refused, outcome}
 use Rattle.elimination.proofs.reduction.reduce.Goals as goal

@@ -1,4 +1,4 @@
-use Rattle.std.proofs.Common.{◌≡◌, take, drop}
+use Rattle.std.proofs.Common.{◌≡◌, drop}
 use Rattle.elimination.specs.Slots.{straight}
 use Rattle.elimination.proofs.slots.all_straight.Given as goal
 

@@ -1,4 +1,4 @@
-use Rattle.std.proofs.Common.{◌≡◌, ◌≤◌, length, sym, ap, ◌∙◌, arith}
+use Rattle.std.proofs.Common.{◌≤◌, length, sym, ap, ◌∙◌, arith}
 use Rattle.elimination.specs.Slots.{added}
 use Rattle.elimination.proofs.Scans.{neighbours-more, neighbours-none}
 use Rattle.elimination.proofs.slots.far_ends.Goals as goal

@@ -1,4 +1,4 @@
-use Rattle.std.proofs.Common.{◌≡◌, ◌+◌, ◌<◌, ◌≤◌, max, length, drop, ap, ◌∙◌, arith}
+use Rattle.std.proofs.Common.{◌+◌, max, drop, ap, ◌∙◌, arith}
 use Rattle.std.proofs.lemmas.List.{at_drop_all}
 use Rattle.instructions.specs.Depth.{deepest}
 use Rattle.instructions.proofs.Deepest.{deepest-more}

@@ -1,4 +1,4 @@
-use Rattle.std.proofs.Common.{◌≡◌, ◌+◌, ◌<◌, ◌≤◌, length, take, ap, subst, arith}
+use Rattle.std.proofs.Common.{subst, arith}
 use Rattle.std.proofs.lemmas.List.{take_all}
 use Rattle.instructions.specs.Texts.{field, fields, Wrote}
 use Rattle.instructions.proofs.Texts.{wrote_none, wrote_next, room_next}

@@ -1,4 +1,4 @@
-use Rattle.std.proofs.Common.{◌+◌, ◌/◌, ◌^◌, ◌<◌, length, sym, ap, ◌∙◌, arith}
+use Rattle.std.proofs.Common.{◌+◌, ◌/◌, length, sym, ap, ◌∙◌, arith}
 use Rattle.std.proofs.lemmas.Fmt.{decimal_digit, length-decimal-le_succ}
 use Rattle.instructions.proofs.Texts.{length_decimal_step}
 use Rattle.instructions.proofs.text.+digits_in.Goals as goal

@@ -1,4 +1,4 @@
-use Rattle.std.proofs.Common.{◌<◌, length, refl, arith}
+use Rattle.std.proofs.Common.{refl, arith}
 use Rattle.scanning.proofs.Piles.{pile-more}
 use Rattle.scanning.proofs.aside.set_aside.Goals as goal
 

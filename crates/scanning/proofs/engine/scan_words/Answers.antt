@@ -1,4 +1,4 @@
-use Rattle.std.proofs.Common.{◌≡◌, ◌+◌, ◌<◌, ◌≤◌, [], length, refl, ap, ◌∙◌, arith}
+use Rattle.std.proofs.Common.{◌≡◌, [], refl, ap, ◌∙◌, arith}
 use Rattle.scanning.specs.Machine.{runs, fresh, scanned}
 use Rattle.scanning.proofs.Scans.{going_none, going_roomy, going_more, going_points, left_by_paths, left_unnamed}
 use Rattle.scanning.proofs.engine.scan_words.Goals as goal

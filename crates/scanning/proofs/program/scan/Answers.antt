@@ -1,4 +1,4 @@
-use Rattle.std.proofs.Common.{◌≡◌, ap, ◌∙◌, arith}
+use Rattle.std.proofs.Common.{ap, ◌∙◌, arith}
 use Rattle.scanning.specs.Working.{fitting}
 use Rattle.scanning.proofs.Fitting.{keeps-fits}
 use Rattle.programs.specs.Programs.{held}

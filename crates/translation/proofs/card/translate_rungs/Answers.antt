@@ -1,4 +1,4 @@
-use Rattle.std.proofs.Common.{◌≡◌, sym, ap, ◌∙◌}
+use Rattle.std.proofs.Common.{sym, ◌∙◌}
 use Rattle.std.proofs.lemmas.Result.{err_from_is_err_and}
 use Rattle.translation.proofs.Judging.{told_err, head_err, head_ok, end_err, end_ok, stopped}
 use Rattle.translation.proofs.card.translate_rungs.Goals as goal

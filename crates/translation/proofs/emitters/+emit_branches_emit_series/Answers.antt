@@ -1,4 +1,4 @@
-use Rattle.std.proofs.Common.{◌≡◌, [], ◌∷◌, ◌++◌, sym, ap, ◌∙◌, arith}
+use Rattle.std.proofs.Common.{[], ◌∷◌, ◌++◌, sym, ap, ◌∙◌, arith}
 use Rattle.elimination.specs.Trees.{tree_at}
 use Rattle.instructions.specs.declared.instruction.Instruction.TheVariants.{AndOpen, OrOpen, Close}
 use Rattle.instructions.specs.Words.{word_of}

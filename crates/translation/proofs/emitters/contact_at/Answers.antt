@@ -1,4 +1,4 @@
-use Rattle.std.proofs.Common.{◌≡◌, take, sym, ap, arith}
+use Rattle.std.proofs.Common.{take, sym, ap, arith}
 use Rattle.std.proofs.lemmas.List.{get_or-take, get_or_past, length-take}
 use Rattle.wiring.specs.declared.rung.Contact.TheVariants.{Wire}
 use Rattle.wiring.specs.declared.rung.Link.{Link}

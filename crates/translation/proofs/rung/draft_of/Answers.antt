@@ -1,4 +1,3 @@
-use Rattle.std.proofs.Common.{◌≡◌, ◌∙◌}
 use native.Mathlib.Nat.{sub-zero}
 use Rattle.elimination.specs.Trees.{tree_at}
 use Rattle.wiring.specs.Circuit.{circuit}

@@ -1,4 +1,4 @@
-use Rattle.std.proofs.Common.{◌≡◌, ◌<◌, ◌≤◌, length, sym, refl, ap, ◌∙◌, arith, rules}
+use Rattle.std.proofs.Common.{◌≡◌, ◌<◌, ◌≤◌, length, sym, refl, arith, rules}
 use Rattle.std.proofs.lemmas.List.{set_past}
 use Rattle.banks.proofs.Marking.{marked_here, marked_elsewhere}
 use Rattle.banks.proofs.strip.Strip.mark.Goals as goal

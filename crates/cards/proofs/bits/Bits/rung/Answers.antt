@@ -1,6 +1,6 @@
-use Rattle.std.proofs.Common.{◌≡◌, ℕ, ◌+◌, ◌*◌, List, length, take, Ok, Err, sym, refl, ap, ◌∙◌, arith}
+use Rattle.std.proofs.Common.{◌≡◌, ◌+◌, ◌*◌, length, take, Ok, sym, ◌∙◌, arith}
 use Rattle.std.proofs.lemmas.List.{length-take-le}
-use Rattle.cards.specs.Rungs.{sizes_at, links_at, coils_at, rung_at}
+use Rattle.cards.specs.Rungs.{links_at, coils_at}
 use Rattle.cards.proofs.Limits.{sizes_counted, links_linked, coils-driven}
 use Rattle.cards.proofs.Rows.{rung_from}
 use Rattle.cards.proofs.bits.Bits.rung.Goals as goal

@@ -1,4 +1,4 @@
-use Rattle.std.proofs.Common.{◌≡◌, ℕ, ◌<◌, length, refl, ◌∙◌, arith, rules}
+use Rattle.std.proofs.Common.{◌<◌, length, refl, ◌∙◌, arith, rules}
 use Rattle.controller.proofs.Histories.{going_start, going_more, going_end}
 use Rattle.controller.proofs.controller.Controller.perform_all.Goals as goal
 

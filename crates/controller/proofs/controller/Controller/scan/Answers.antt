@@ -1,4 +1,4 @@
-use Rattle.std.proofs.Common.{sym, refl, ap, arith}
+use Rattle.std.proofs.Common.{refl, ap, arith}
 use Rattle.std.proofs.lemmas.Result.{err_from_is_err_and}
 use Rattle.controller.proofs.Steps.{scan_small_step, few_signals_step, scan_step}
 use Rattle.controller.proofs.controller.Controller.scan.Goals as goal

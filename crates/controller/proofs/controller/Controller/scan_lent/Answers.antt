@@ -1,4 +1,3 @@
-use Rattle.std.proofs.Common.{refl}
 use Rattle.controller.proofs.Lending.{scan_part, part_back}
 use Rattle.controller.proofs.controller.Controller.scan_lent.Goals as goal
 

@@ -1,4 +1,4 @@
-use Rattle.std.proofs.Common.{◌≡◌, ◌+◌, ◌≤◌, length, decimal, sym, ap, ◌∙◌, arith, lit<}
+use Rattle.std.proofs.Common.{length, ap, arith, lit<}
 use Rattle.std.proofs.lemmas.Fmt.{length-decimal-le}
 use Rattle.instructions.specs.Lines.{operand_text}
 use Rattle.instructions.proofs.instruction.Operand.text_len.Goals as goal

@@ -1,7 +1,6 @@
-use Rattle.std.proofs.Common.{◌≡◌, ℕ, ◌≤◌, List, length, Ok, ap, ◌∙◌, subst, arith}
+use Rattle.std.proofs.Common.{ℕ, List, length, Ok, ap, ◌∙◌, subst, arith}
 use Rattle.std.proofs.lemmas.List.{length-take}
 use Rattle.instructions.specs.Lines.{listing}
-use Rattle.instructions.specs.Stores.{stored}
 use Rattle.instructions.specs.Reports.{Written}
 use Rattle.instructions.proofs.Reports.{written_whole}
 use Rattle.instructions.proofs.store.Store.write_listing.Goals as goal
