@@ -1,7 +1,7 @@
 -- Numbers and the bits that write them.
 use Rattle.std.proofs.Common.{◌≡◌, ℕ, zero, suc, ◌+◌, ◌*◌, ◌/◌, ◌%◌, ◌^◌, ◌<◌, List, [], ◌∷◌, length, take, drop, sym, refl, ap, ◌∙◌, div-one, add-one, arith}
 use native.Mathlib.Nat.{div-eq_of_lt, lt-div-mul-add}
-use Rattle.std.specs.List.{AllByRecursion as All}
+use Rattle.std.specs.List.{AllByRecursion}
 use Rattle.std.proofs.lemmas.Nat.{shr-shr, pow_pos}
 use Rattle.std.proofs.ByRecursion.{All-append}
 use Rattle.cards.specs.Bits.{byte_bits, bits, number_on}
@@ -9,7 +9,7 @@ use Rattle.cards.specs.Encoding.{field_bits}
 
 -- bits
 abbrev pub Binary : List ℕ → Type 0
-Binary bs = All (λ (b : ℕ). b < 2) bs
+Binary bs = AllByRecursion (λ (b : ℕ). b < 2) bs
 
 pub length-field_bits : (w n : ℕ) → length (field_bits w n) ≡ w
 unfolding field_bits

@@ -1,6 +1,6 @@
 -- Rows of parts: what is read is what the bits encode, and what is encoded is read.
 use Rattle.std.proofs.Common.{◌≡◌, ℕ, zero, suc, ◌+◌, ◌*◌, ◌≤◌, List, [], ◌∷◌, ◌++◌, length, Ok, Result, sym, refl, ap, ◌∙◌, subst, arith, length-append}
-use Rattle.std.specs.List.{flat_map, AllByRecursion as All}
+use Rattle.std.specs.List.{flat_map, AllByRecursion}
 use Rattle.cards.specs.declared.fault.CardFault.{CardFault}
 use Rattle.cards.specs.Rungs.{row_at}
 use Rattle.cards.proofs.Limits.{opened}
@@ -18,7 +18,7 @@ length-joined code width long (x ∷ xs) =
 pub record RowRead {A : Type 0} (all : List ℕ) (width : ℕ) (code : A → List ℕ) (Good : A → Type 0) (n at : ℕ) (xs : List A) : Type 0 where
   pub count : length xs ≡ n
   pub stretch : Stretch all at (width * n) (flat_map code xs)
-  pub good : All Good xs
+  pub good : AllByRecursion Good xs
 
 module _ {A : Type 0} (all : List ℕ) (part : ℕ → Result A CardFault) (width : ℕ) (code : A → List ℕ) (Good : A → Type 0) where
   pub row_read : ((at : ℕ) (x : A) → part at ≡ Ok x → Stretch all at width (code x) × Good x) → (n at : ℕ) (xs : List A) → at ≤ length all → row_at part width n at ≡ Ok xs → RowRead all width code Good n at xs
@@ -42,7 +42,7 @@ module _ {A : Type 0} (all : List ℕ) (part : ℕ → Result A CardFault) (widt
         good = (one.1, rest.good);
       })
 
-  pub row_reads : ((x : A) → length (code x) ≡ width) → ((at : ℕ) (x : A) → Good x → Stretch all at width (code x) → part at ≡ Ok x) → (at : ℕ) (xs : List A) → All Good xs → Stretch all at (width * length xs) (flat_map code xs) → row_at part width (length xs) at ≡ Ok xs
+  pub row_reads : ((x : A) → length (code x) ≡ width) → ((at : ℕ) (x : A) → Good x → Stretch all at width (code x) → part at ≡ Ok x) → (at : ℕ) (xs : List A) → AllByRecursion Good xs → Stretch all at (width * length xs) (flat_map code xs) → row_at part width (length xs) at ≡ Ok xs
   row_reads long each at [] g s = refl
   row_reads long each at (x ∷ xs) g s =
       let m : width * suc (length xs) ≡ width + width * length xs = omega arith in

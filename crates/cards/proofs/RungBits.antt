@@ -1,6 +1,6 @@
 -- Rungs: what is read is what the bits encode, and what is encoded is read.
 use Rattle.std.proofs.Common.{◌≡◌, ℕ, ◌+◌, ◌*◌, ◌<◌, true, List, [], ◌∷◌, ◌++◌, length, Ok, sym, refl, ◌∙◌, subst, arith, length-append}
-use Rattle.std.specs.List.{flat_map, AllByRecursion as All}
+use Rattle.std.specs.List.{flat_map, AllByRecursion}
 use Rattle.std.proofs.lemmas.Bool.{and_parts, and_from, le-leb, cond-true}
 use Rattle.wiring.specs.declared.rung.Link.{Link}
 use Rattle.wiring.specs.declared.rung.Coil.{Coil}
@@ -62,11 +62,11 @@ sizes_reads bytes at n k s =
     sizes_from bytes at ej el ec ∙ cond-true (countable n.joints n.links n.coils) _ _ (counts n k)
 
 -- what links and coils must keep, one by one
-fit_links : (joints : ℕ) (ls : List Link) → linked joints ls ≡ true → All (λ (l : Link). contact_number l.contact < 256) ls → All (FitLink joints) ls
+fit_links : (joints : ℕ) (ls : List Link) → linked joints ls ≡ true → AllByRecursion (λ (l : Link). contact_number l.contact < 256) ls → AllByRecursion (FitLink joints) ls
 fit_links joints [] t p = tt
 fit_links joints (l ∷ ls) t p = let b = and_parts (between joints l) (linked joints ls) t in (record { placed = b.0; point = p.0 }, fit_links joints ls b.1 p.1)
 
-fit_coils : (cs : List Coil) → driven cs ≡ true → All (λ (c : Coil). c.point.number < 256) cs → All FitCoil cs
+fit_coils : (cs : List Coil) → driven cs ≡ true → AllByRecursion (λ (c : Coil). c.point.number < 256) cs → AllByRecursion FitCoil cs
 fit_coils [] t p = tt
 fit_coils (c ∷ cs) t p = let b = and_parts (drivable c.point.area) (driven cs) t in (record { drives = b.0; point = p.0 }, fit_coils cs b.1 p.1)
 

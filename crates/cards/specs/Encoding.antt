@@ -1,6 +1,6 @@
 -- The encoding of rungs: the bits of a card, field by field, and the padding behind them.
 use Rattle.std.specs.Prelude.{◌≡◌, ℕ, zero, suc, ◌/◌, ◌%◌, ◌^◌, ◌<◌, ◌≤◌, true, List, [], ◌∷◌, ◌++◌, length, replicate}
-use Rattle.std.specs.List.{flat_map, AllByRecursion as All}
+use Rattle.std.specs.List.{flat_map, AllByRecursion}
 use Rattle.points.specs.Points.{area_code}
 use Rattle.wiring.specs.declared.rung.Contact.{Contact}
 use Rattle.wiring.specs.declared.rung.Contact.TheVariants.{Wire, Open, Closed}
@@ -71,8 +71,8 @@ pub record Drawable (c : Circuit) : Type 0 where
   -- the coils drive outputs and markers
   pub driven : driven c.coils ≡ true
   -- an area has 256 points
-  pub contact_points : All (λ (l : Link). contact_number l.contact < 256) c.links
-  pub coil_points : All (λ (x : Coil). x.point.number < 256) c.coils
+  pub contact_points : AllByRecursion (λ (l : Link). contact_number l.contact < 256) c.links
+  pub coil_points : AllByRecursion (λ (x : Coil). x.point.number < 256) c.coils
 
 -- the bytes are the encoding of the rungs, filled up with fewer than eight zero bits
 pub record Encoded (bytes : List ℕ) (cs : List Circuit) : Type 0 where

@@ -1,6 +1,6 @@
 -- An accepted card has rungs, and its words are their listings.
 use Rattle.std.proofs.Common.{ℕ, ◌<◌, List, [], ◌∷◌, Ok, sym, refl, subst, inl, inr}
-use Rattle.std.specs.List.{AllByRecursion as All}
+use Rattle.std.specs.List.{AllByRecursion}
 use Rattle.wiring.specs.declared.rung.Contact.{Contact}
 use Rattle.wiring.specs.declared.rung.Contact.TheVariants.{Wire, Open, Closed}
 use Rattle.wiring.specs.declared.rung.Link.{Link}
@@ -15,7 +15,7 @@ use Rattle.scanning.specs.Listings.{Within, Numbered, Listings}
 use Rattle.controller.specs.Promise.{CardAccepted}
 
 -- what holds of all holds of a member
-member : {A : Type 0} (P : A → Type 0) (xs : List A) → All P xs → (x : A) → In x xs → P x
+member : {A : Type 0} (P : A → Type 0) (xs : List A) → AllByRecursion P xs → (x : A) → In x xs → P x
 member P [] a x i = absurd i
 member P (y ∷ ys) a x (inl e) = subst P (sym e) a.0
 member P (y ∷ ys) a x (inr i) = member P ys a.1 x i
@@ -32,7 +32,7 @@ numbered c d =
       coils = λ x i. member (λ (y : Coil). y.point.number < 256) c.coils d.coil_points x i;
     }
 
-listings_of : (cs : List Circuit) (words : List ℕ) → All Drawable cs → Written cs words → Listings cs words
+listings_of : (cs : List Circuit) (words : List ℕ) → AllByRecursion Drawable cs → Written cs words → Listings cs words
 listings_of cs words d none = refl
 listings_of cs words d (more c new ds rest l s w) =
     (new, rest, record { wiring = l.some.0; reads = l.some.1; listing = sym (l.every l.some.0 l.some.1) }, numbered c d.0, listings_of ds rest d.1 w, refl)

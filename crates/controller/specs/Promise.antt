@@ -1,7 +1,7 @@
 -- The promise: what each call answers and what it leaves, and whole runs of calls.
 use Rattle.std.specs.Prelude.{◌≡◌, ℕ, ◌<◌, ◌≤◌, true, ◌↔◌, List, [], ◌∷◌, ◌++◌, length, drop, Some, Ok, Err, slice_set}
 use Rattle.std.specs.Borrow.{Bor}
-use Rattle.std.specs.List.{slice_get, AllByRecursion as All}
+use Rattle.std.specs.List.{slice_get, AllByRecursion}
 use Rattle.signals.specs.Kind.{Kind}
 use Rattle.instructions.specs.declared.report.ShortBuffer.{ShortBuffer}
 use Rattle.instructions.specs.Lines as lines
@@ -70,7 +70,7 @@ pub record CardAccepted (bytes : List ℕ) (cs : List Circuit) (words : List ℕ
   pub judged : CardJudged bytes (Ok words)
   pub encoded : Encoded bytes cs
   pub few : length cs ≤ 128
-  pub drawable : All Drawable cs
+  pub drawable : AllByRecursion Drawable cs
   pub translates : Translates cs words
   pub listed : Listings cs words
 

@@ -1,13 +1,13 @@
 //! How deep the brackets of words go.
 ghost use Rattle.std.specs.Prelude.{◌≡◌, ◌+◌, ◌^◌, ◌<◌, ◌≤◌, length};
 ghost use Rattle.instructions.specs.Words.{instruction_of};
-ghost use Rattle.instructions.specs.Depth.{opened, opened_if, depth as deepestIn};
+ghost use Rattle.instructions.specs.Depth.{opened, opened_if, depth as deepest_in};
 
 use super::instruction::Instruction;
 
 /// The greatest number of brackets open at once in the words.
 pub fn depth(words: &[u16]) -> usize
-    ensures { result ≡ deepestIn words.now }
+    ensures { result ≡ deepest_in words.now }
 {
     let mut open = 0;
     let mut deepest = 0;

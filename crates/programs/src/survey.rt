@@ -2,7 +2,7 @@
 ghost use Rattle.std.specs.Prelude.{◌≡◌, ◌+◌, ◌^◌, ◌<◌};
 ghost use Rattle.instructions.specs.Words.{instruction_of};
 ghost use Rattle.instructions.specs.Depth.{opened_if};
-ghost use Rattle.programs.specs.Counts.{starts_if, counts as countsOf};
+ghost use Rattle.programs.specs.Counts.{starts_if, counts as counts_of};
 ghost use Rattle.programs.specs.Surveys.{seen_at, seen_after};
 
 use instructions::Instruction;
@@ -20,7 +20,7 @@ struct Survey {
 
 /// Rungs, words, greatest depth, and the first rung with that depth; 0 if there are no rungs.
 pub fn counts(words: &[u16]) -> (usize, usize, usize, usize)
-    ensures { result ≡ countsOf words.now }
+    ensures { result ≡ counts_of words.now }
 {
     let mut seen = Survey {
         brackets: 0,

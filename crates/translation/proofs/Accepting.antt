@@ -1,6 +1,6 @@
 -- A card is accepted exactly if it is the encoding of rungs within the limits.
 use Rattle.std.proofs.Common.{◌≡◌, ℕ, ◌+◌, ◌<◌, ◌≤◌, List, [], ◌∷◌, ◌++◌, length, drop, replicate, Ok, sym, refl, ap, ◌∙◌, subst, arith, length-append}
-use Rattle.std.specs.List.{flat_map, AllByRecursion as All}
+use Rattle.std.specs.List.{flat_map, AllByRecursion}
 use Rattle.std.proofs.lemmas.List.{append_assoc, append-nil}
 use Rattle.wiring.specs.Circuit.{Circuit}
 use Rattle.cards.specs.Bits.{bits}
@@ -22,7 +22,7 @@ record Ahead (bytes : List ℕ) (rungs k at : ℕ) (words out : List ℕ) : Type
   padding : ℕ
   short : padding < 8
   are : drop at (bits bytes) ≡ flat_map circuit_bits cs ++ replicate padding 0
-  drawable : All Drawable cs
+  drawable : AllByRecursion Drawable cs
   rest : List ℕ
   written : Written cs rest
   all : words ++ rest ≡ out
@@ -68,7 +68,7 @@ ahead {bytes} {rungs} (taken k at words c new v h f g s r j) out q w few =
     }
 
 -- and back
-judged : {cs : List Circuit} {rest : List ℕ} → Written cs rest → (bytes : List ℕ) (rungs k at : ℕ) (words : List ℕ) (padding : ℕ) → padding < 8 → k + length cs ≡ rungs → All Drawable cs → at ≤ length (bits bytes) → drop at (bits bytes) ≡ flat_map circuit_bits cs ++ replicate padding 0 → length words + length rest ≤ 4096 → Judged bytes rungs k at words (Ok (words ++ rest))
+judged : {cs : List Circuit} {rest : List ℕ} → Written cs rest → (bytes : List ℕ) (rungs k at : ℕ) (words : List ℕ) (padding : ℕ) → padding < 8 → k + length cs ≡ rungs → AllByRecursion Drawable cs → at ≤ length (bits bytes) → drop at (bits bytes) ≡ flat_map circuit_bits cs ++ replicate padding 0 → length words + length rest ≤ 4096 → Judged bytes rungs k at words (Ok (words ++ rest))
 judged none bytes rungs k at words padding short n d w e few =
     let m : rungs ≡ k = omega arith in
     let end = end_reads bytes at w (record { padding = padding; short = short; are = e }) in
@@ -88,7 +88,7 @@ judged (more c new cs rest g s more-words) bytes rungs k at words padding short 
 
 -- whole cards
 abbrev Accepted : List ℕ → List ℕ → Type 0
-Accepted bytes words = (cs : List Circuit) × Encoded bytes cs × (length cs ≤ 128) × All Drawable cs × Translates cs words
+Accepted bytes words = (cs : List Circuit) × Encoded bytes cs × (length cs ≤ 128) × AllByRecursion Drawable cs × Translates cs words
 
 encodes : {bytes : List ℕ} {v : Verdict} → CardJudged bytes v → (words : List ℕ) → v ≡ Ok words → Accepted bytes words
 encodes (headless e h) words q = absurd (no_err q)

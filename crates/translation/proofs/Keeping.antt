@@ -34,7 +34,7 @@ use Rattle.cards.specs.Rungs.{and_then, fault_at}
 use Rattle.cards.specs.Cards.{few_rungs, head_at}
 use Rattle.cards.specs.Encoding.{contact_number, Drawable}
 use Rattle.cards.proofs.RungBits.{rung_read}
-use Rattle.std.specs.List.{AllByRecursion as All}
+use Rattle.std.specs.List.{AllByRecursion}
 use Rattle.wiring.specs.declared.rung.Link.{Link}
 use Rattle.translation.specs.Judgement.{Verdict, Judged, ended, trailed, misread, crossed, deep, long, taken, CardJudged, headless, headed}
 use Rattle.translation.specs.declared.emitters.Place.TheVariants.{First, Later}
@@ -339,7 +339,7 @@ rung_leads c w P s r n l d m k =
     ∙ ap (λ y. Ok (at Stored 0 (r + 1) y)) j
 
 -- a rung that a card draws has plain points
-contacts-plain : (ls : List Link) → All (λ (l : Link). contact_number l.contact < 256) ls → (i : ℕ) → PlainContact (get_or ls i (record { from = 0; to = 0; contact = Wire })).contact
+contacts-plain : (ls : List Link) → AllByRecursion (λ (l : Link). contact_number l.contact < 256) ls → (i : ℕ) → PlainContact (get_or ls i (record { from = 0; to = 0; contact = Wire })).contact
 contacts-plain [] h i = tt
 contacts-plain (l ∷ ls) h zero = plain l.contact h.0
   where
@@ -349,7 +349,7 @@ contacts-plain (l ∷ ls) h zero = plain l.contact h.0
     plain (Closed p) k = k
 contacts-plain (l ∷ ls) h (suc i) = contacts-plain ls h.1 i
 
-coils-plain : (xs : List Coil) → All (λ (x : Coil). x.point.number < 256) xs → PlainCoils xs
+coils-plain : (xs : List Coil) → AllByRecursion (λ (x : Coil). x.point.number < 256) xs → PlainCoils xs
 coils-plain [] h = tt
 coils-plain (x ∷ xs) h = (h.0, coils-plain xs h.1)
 

@@ -1,6 +1,6 @@
 -- Which cards are accepted, and with which words.
 use Rattle.std.specs.Prelude.{◌≡◌, ℕ, ◌≤◌, ◌↔◌, List, [], ◌∷◌, ◌++◌, length, Ok}
-use Rattle.std.specs.List.{AllByRecursion as All}
+use Rattle.std.specs.List.{AllByRecursion}
 use Rattle.wiring.specs.Circuit.{Circuit}
 use Rattle.cards.specs.Encoding.{Drawable, Encoded}
 use Rattle.translation.specs.Translation.{Listed, Shallow}
@@ -18,7 +18,7 @@ pub record Translates (cs : List Circuit) (words : List ℕ) : Type 0 where
 
 -- a card is accepted with these words exactly if it encodes at most 128 rungs that a card can hold, and the words are theirs
 abbrev pub AcceptedExactly : Type 0
-AcceptedExactly = (bytes words : List ℕ) → CardJudged bytes (Ok words) ↔ ((cs : List Circuit) × Encoded bytes cs × (length cs ≤ 128) × All Drawable cs × Translates cs words)
+AcceptedExactly = (bytes words : List ℕ) → CardJudged bytes (Ok words) ↔ ((cs : List Circuit) × Encoded bytes cs × (length cs ≤ 128) × AllByRecursion Drawable cs × Translates cs words)
 
 -- a card has at most one verdict
 abbrev pub OneVerdict : Type 0

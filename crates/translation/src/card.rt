@@ -1,7 +1,7 @@
 //! From a card to the words of its rungs.
 ghost use Rattle.std.specs.Prelude.{◌≡◌, [], MatchResult};
 ghost use Rattle.instructions.specs.Stores.{stored};
-ghost use Rattle.programs.specs.Counts.{counts as countsOf};
+ghost use Rattle.programs.specs.Counts.{counts as counts_of};
 ghost use Rattle.translation.specs.Judgement.{Stepped, Told, CardTaken};
 
 use super::ladder_fault::{LadderFault, at_rung, in_rung};
@@ -17,7 +17,7 @@ pub fn translate_card(
     staged: &mut Store,
 ) -> Result<(usize, usize, usize, usize), LadderFault>
     ensures verdict { Told card.now result staged.new }
-    ensures counted { MatchResult result (λ numbers. numbers ≡ countsOf (stored staged.new)) (λ _. stored staged.new ≡ []) }
+    ensures counted { MatchResult result (λ numbers. numbers ≡ counts_of (stored staged.new)) (λ _. stored staged.new ≡ []) }
 {
     staged.clear();
     match translate_rungs(card, staged) {

@@ -3,7 +3,7 @@ ghost use Rattle.std.specs.Prelude.{◌≡◌, []};
 ghost use Rattle.instructions.specs.Lines.{listing};
 ghost use Rattle.instructions.specs.Stores.{stored};
 ghost use Rattle.instructions.specs.Reports.{status_line, Written};
-ghost use Rattle.programs.specs.Counts.{starts_of, counts as countsOf};
+ghost use Rattle.programs.specs.Counts.{starts_of, counts as counts_of};
 ghost use Rattle.programs.specs.Programs.{held};
 
 use super::Program;
@@ -39,7 +39,7 @@ impl Program {
 
     /// Rungs, words, greatest depth, and the first rung with that depth; 0 if there are no rungs.
     pub fn counts(&self) -> (usize, usize, usize, usize)
-        ensures { result ≡ countsOf (held self.now) }
+        ensures { result ≡ counts_of (held self.now) }
     {
         survey::counts(self.words())
     }
@@ -53,7 +53,7 @@ impl Program {
 
     /// Writes the status line: its length is answered, later bytes stay.
     pub fn write_status(&self, buffer: &mut [u8]) -> Result<usize, ShortBuffer>
-        ensures { Written (status_line (countsOf (held self.now))) buffer.old result buffer.new }
+        ensures { Written (status_line (counts_of (held self.now))) buffer.old result buffer.new }
     {
         instructions::write_status(self.counts(), buffer)
     }
