@@ -6,7 +6,7 @@ use Rattle.banks.proofs.open.slots_read.Goals as goal
 pub returns-then-index-slots_count : goal.returns-then-index-slots_count
 returns-then-index-slots_count g c =
     let h : c.args.index < length (take 768 c.args.slots.now) = search rules in
-    taken_read c.args.slots.now c.args.index 768 h c.index-slots-index.result c.index-slots-index.is
+    search (rules, taken_read)
 
 pub returns-else-index-slots_count : goal.returns-else-index-slots_count
 returns-else-index-slots_count g c =
