@@ -5,7 +5,7 @@ usage: tools/check_vectors.py PROGRAM FILE.jsonl [ARGUMENT...]
 
 Each line of the file is a JSON object with `name`, `input_hex` (standard input in hexadecimal) and `expect`
 (standard output, compared byte for byte). An expected first line that begins with `NO` must come with exit
-status 1, any other with 0; ends with status 1 if anything differs.
+status 1, any other with 0, and nothing may stand on standard error; ends with status 1 if anything differs.
 """
 import json
 import subprocess
@@ -24,11 +24,12 @@ def main():
             expect = vector["expect"].encode("ascii")
             status = 1 if expect.startswith(b"NO") else 0
             total += 1
-            if run.stdout != expect or run.returncode != status:
+            if run.stdout != expect or run.returncode != status or run.stderr:
                 wrong += 1
                 print(f"{vector['name']}: status {run.returncode} (expected {status})")
                 print(f"  got      {run.stdout[:200]!r}")
                 print(f"  expected {expect[:200]!r}")
+                print(f"  on standard error {run.stderr[:200]!r}")
     print(f"{total} vectors, {wrong} differ")
     sys.exit(1 if wrong else 0)
 

@@ -11,6 +11,7 @@ use output::{failed, print_controller, print_refusal};
 use scripts::{ScriptFault, run_script};
 use signals::Plain;
 use std::io::{Read, Write};
+use std::process::ExitCode;
 use std::{env, io};
 
 /// What the arguments ask for.
@@ -97,15 +98,23 @@ fn input(rt: &HostRuntime) -> io::Result<Vec<u8>> {
     Ok(bytes)
 }
 
-fn main(rt: HostRuntime) -> io::Result<()> {
-    match chosen(&rt)? {
-        Command::Card => translate(&rt, input(&rt)?.as_slice()),
-        Command::Listing => read_back(&rt, input(&rt)?.as_slice()),
-        Command::Run => run(&rt, input(&rt)?.as_slice()),
-        Command::Help => print_help(&rt),
+fn perform(rt: &HostRuntime) -> io::Result<()> {
+    match chosen(rt)? {
+        Command::Card => translate(rt, input(rt)?.as_slice()),
+        Command::Listing => read_back(rt, input(rt)?.as_slice()),
+        Command::Run => run(rt, input(rt)?.as_slice()),
+        Command::Help => print_help(rt),
         Command::Unknown => {
             eprintln!(rt; "startline: unknown argument; see startline --help")?;
             Err(failed())
         }
+    }
+}
+
+/// What is to be said of a refusal has been said, so an error ends the program with status 1 and no words of its own.
+fn main(rt: HostRuntime) -> ExitCode {
+    match perform(&rt) {
+        Ok(()) => ExitCode::SUCCESS,
+        Err(_) => ExitCode::FAILURE,
     }
 }
