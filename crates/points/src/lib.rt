@@ -3,4 +3,4 @@
 
 mod point;
 
-pub use point::{Area, Point};
+pub use point::{Area, NoSuchArea, Point};

@@ -5,7 +5,7 @@ ghost use Rattle.std.proofs.Common.{rules};
 use crate::signal::Signal;
 
 /// In rising order: series joining takes the lower signal, parallel joining the higher.
-#[derive(Clone, Copy, PartialEq, Eq, Debug)]
+#[derive(Clone, Copy, PartialEq, Eq, PartialOrd, Ord, Debug)]
 pub enum Doubtful {
     Off,
     Unknown,
@@ -26,21 +26,11 @@ impl Signal for Doubtful {
     }
 
     fn series(self, other: Self) -> Self {
-        match (self, other) {
-            (Doubtful::Off, _) => Doubtful::Off,
-            (_, Doubtful::Off) => Doubtful::Off,
-            (Doubtful::On, Doubtful::On) => Doubtful::On,
-            _ => Doubtful::Unknown,
-        }
+        self.min(other)
     }
 
     fn parallel(self, other: Self) -> Self {
-        match (self, other) {
-            (Doubtful::On, _) => Doubtful::On,
-            (_, Doubtful::On) => Doubtful::On,
-            (Doubtful::Off, Doubtful::Off) => Doubtful::Off,
-            _ => Doubtful::Unknown,
-        }
+        self.max(other)
     }
 
     fn inverse(self) -> Self {
@@ -52,9 +42,6 @@ impl Signal for Doubtful {
     }
 
     fn is_on(self) -> bool {
-        match self {
-            Doubtful::On => true,
-            Doubtful::Off | Doubtful::Unknown => false,
-        }
+        self == Doubtful::On
     }
 }

@@ -4,7 +4,8 @@ ghost use Rattle.std.proofs.Common.{rules};
 
 use crate::signal::Signal;
 
-#[derive(Clone, Copy, PartialEq, Eq, Debug)]
+/// In rising order: AND takes the lower signal, OR the higher.
+#[derive(Clone, Copy, PartialEq, Eq, PartialOrd, Ord, Debug)]
 pub enum Plain {
     Off,
     On,
@@ -24,17 +25,11 @@ impl Signal for Plain {
     }
 
     fn series(self, other: Self) -> Self {
-        match self {
-            Plain::Off => Plain::Off,
-            Plain::On => other,
-        }
+        self.min(other)
     }
 
     fn parallel(self, other: Self) -> Self {
-        match self {
-            Plain::Off => other,
-            Plain::On => Plain::On,
-        }
+        self.max(other)
     }
 
     fn inverse(self) -> Self {
@@ -45,9 +40,6 @@ impl Signal for Plain {
     }
 
     fn is_on(self) -> bool {
-        match self {
-            Plain::Off => false,
-            Plain::On => true,
-        }
+        self == Plain::On
     }
 }
