@@ -24,9 +24,9 @@ fn open_after(open: usize, word: u16) -> usize
     ensures value { result ≡ opened_if «open» (instruction_of word) }
     ensures bound { result ≤ «open» + 1 }
 {
-    match Instruction::from_word(word) {
-        Some(Instruction::AndOpen) | Some(Instruction::OrOpen) => open + 1,
-        Some(Instruction::Close) => open.saturating_sub(1),
+    match Instruction::try_from(word) {
+        Ok(Instruction::AndOpen | Instruction::OrOpen) => open + 1,
+        Ok(Instruction::Close) => open.saturating_sub(1),
         _ => open,
     }
 }

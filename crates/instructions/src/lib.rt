@@ -14,4 +14,4 @@ pub use brackets::depth;
 pub use instruction::{Instruction, Operand};
 pub use report::{ShortBuffer, write_refusal, write_status};
 pub use store::{Full, Store};
-pub use word::words_agree;
+pub use word::{NotAnInstruction, words_agree};

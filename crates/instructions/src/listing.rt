@@ -38,9 +38,9 @@ fn word_len(word: u16) -> usize
     ensures value { result ≡ length (word_line word) }
     ensures bound { result ≤ 11 }
 {
-    match Instruction::from_word(word) {
-        None => 0,
-        Some(instruction) => instruction.line_len(),
+    match Instruction::try_from(word) {
+        Err(_) => 0,
+        Ok(instruction) => instruction.line_len(),
     }
 }
 
@@ -60,8 +60,8 @@ fn write_word(word: u16, buffer: &mut [u8], at: usize) -> usize
     requires { at + length (word_line word) ≤ length buffer.old }
     ensures { Wrote buffer.old at (word_line word) result buffer.new }
 {
-    match Instruction::from_word(word) {
-        None => at,
-        Some(instruction) => instruction.write_line(buffer, at),
+    match Instruction::try_from(word) {
+        Err(_) => at,
+        Ok(instruction) => instruction.write_line(buffer, at),
     }
 }

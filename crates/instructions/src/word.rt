@@ -1,10 +1,13 @@
 //! The 16-bit word of an instruction: operation 4 bits, area 2, number 10.
-ghost use Rattle.std.specs.Prelude.{◌≡◌, ◌<◌};
-ghost use Rattle.instructions.specs.Words.{operand_code, operation_code, word_of, operand_of, shaped, instruction_of, bare_of};
+ghost use Rattle.std.specs.Prelude.{◌≡◌, ◌<◌, codes, Some};
+ghost use Rattle.std.specs.Result.{result_ok};
+ghost use Rattle.instructions.specs.Words.{operand_code, operation_code, word_of, operand_of, shaped, instruction_of};
 ghost use Rattle.instructions.specs.WordLaws.{WordLaws};
 
 use super::instruction::{Instruction, Operand};
 use points::{Area, Point};
+use std::error::Error;
+use std::fmt;
 
 impl Operand {
     /// Area and number as a word has them; `TRUE` has area 0 and number 0.
@@ -45,12 +48,12 @@ impl Operand {
     }
 }
 
-impl Instruction {
-    /// The word that a program keeps for the instruction.
-    pub fn word(self) -> u16
-        ensures { result ≡ word_of self }
-    {
-        match self {
+/// The word that a program keeps for the instruction.
+impl From<Instruction> for u16 {
+    ghost from_gives = { λ instruction word. word ≡ word_of instruction };
+
+    fn from(instruction: Instruction) -> u16 {
+        match instruction {
             Instruction::Load(operand) => operand.code(),
             Instruction::LoadNot(operand) => 0x1000 + operand.code(),
             Instruction::And(operand) => 0x2000 + operand.code(),
@@ -66,46 +69,53 @@ impl Instruction {
             Instruction::Reset(operand) => 0xc000 + operand.code(),
         }
     }
+}
 
-    /// The instruction that a word stands for, if it stands for one.
-    pub fn from_word(word: u16) -> Option<Instruction>
-        ensures { result ≡ instruction_of word }
-    {
-        match Operand::of(word / 1024 % 4, word % 1024) {
-            None => None,
-            Some(operand) => shape(word / 4096, operand),
-        }
+/// A word stands for no instruction.
+#[derive(Clone, Copy, Debug, PartialEq, Eq)]
+pub struct NotAnInstruction;
+
+impl fmt::Display for NotAnInstruction {
+    ghost output = { λ _. Some (codes "no instruction has this word") };
+
+    fn fmt<W: fmt::Write>(&self, f: &mut fmt::Formatter<W>) -> fmt::Result {
+        f.write_str("no instruction has this word")
     }
 }
 
-/// A bracket takes no operand: its word has area 0 and number 0.
-fn bare(operand: Operand, instruction: Instruction) -> Option<Instruction>
-    ensures { result ≡ bare_of operand instruction }
-{
-    match operand {
-        Operand::True => Some(instruction),
-        Operand::At(_) => None,
+impl Error for NotAnInstruction {}
+
+/// The instruction that a word stands for, if it stands for one.
+impl TryFrom<u16> for Instruction {
+    type Error = NotAnInstruction;
+
+    ghost try_from_gives = { λ word answer. result_ok answer ≡ instruction_of word };
+
+    fn try_from(word: u16) -> Result<Instruction, NotAnInstruction> {
+        Operand::of(word / 1024 % 4, word % 1024)
+            .and_then(|operand| shape(word / 4096, operand))
+            .ok_or(NotAnInstruction)
     }
 }
 
-/// The instruction of an operation's number.
+/// The instruction of an operation's number; a bracket takes no operand, so its word has area 0 and number 0.
 fn shape(operation: u16, operand: Operand) -> Option<Instruction>
     ensures { result ≡ shaped operation operand }
 {
-    match operation {
-        0 => Some(Instruction::Load(operand)),
-        1 => Some(Instruction::LoadNot(operand)),
-        2 => Some(Instruction::And(operand)),
-        3 => Some(Instruction::AndNot(operand)),
-        4 => Some(Instruction::Or(operand)),
-        5 => Some(Instruction::OrNot(operand)),
-        6 => bare(operand, Instruction::AndOpen),
-        7 => bare(operand, Instruction::OrOpen),
-        8 => bare(operand, Instruction::Close),
-        9 => Some(Instruction::Store(operand)),
-        10 => Some(Instruction::StoreNot(operand)),
-        11 => Some(Instruction::Set(operand)),
-        12 => Some(Instruction::Reset(operand)),
+    match (operation, operand) {
+        (0, _) => Some(Instruction::Load(operand)),
+        (1, _) => Some(Instruction::LoadNot(operand)),
+        (2, _) => Some(Instruction::And(operand)),
+        (3, _) => Some(Instruction::AndNot(operand)),
+        (4, _) => Some(Instruction::Or(operand)),
+        (5, _) => Some(Instruction::OrNot(operand)),
+        (6, Operand::True) => Some(Instruction::AndOpen),
+        (7, Operand::True) => Some(Instruction::OrOpen),
+        (8, Operand::True) => Some(Instruction::Close),
+        (9, _) => Some(Instruction::Store(operand)),
+        (10, _) => Some(Instruction::StoreNot(operand)),
+        (11, _) => Some(Instruction::Set(operand)),
+        (12, _) => Some(Instruction::Reset(operand)),
         _ => None,
     }
 }
