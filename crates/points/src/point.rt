@@ -3,8 +3,9 @@ ghost use Rattle.std.specs.Prelude.{◌≡◌};
 ghost use Rattle.points.specs.Points.{area_code, area_of, index_of};
 
 /// The three areas of 256 points each.
-#[derive(Clone, Copy)]
+#[derive(Clone, Copy, Default)]
 pub enum Area {
+    #[default]
     Input,
     Output,
     Marker,
@@ -36,7 +37,7 @@ impl Area {
 }
 
 /// An input, an output or a marker, by its number in its area.
-#[derive(Clone, Copy)]
+#[derive(Clone, Copy, Default)]
 pub struct Point {
     pub area: Area,
     pub number: u8,
