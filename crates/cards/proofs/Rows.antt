@@ -1,7 +1,7 @@
 -- Fields and rows of parts, read one after the other.
-use Rattle.std.proofs.Common.{◌≡◌, ℕ, suc, ◌+◌, ◌-◌, ◌*◌, ◌<◌, List, [], ◌∷◌, ◌++◌, length, take, set, IfOk, Ok, Err, Result, sym, refl, ap, ◌∙◌, subst, arith}
+use Rattle.std.proofs.Common.{◌≡◌, ℕ, suc, ◌+◌, ◌-◌, ◌*◌, ◌<◌, List, [], ◌∷◌, ◌++◌, IfOk, Ok, Err, Result, sym, refl, ap, ◌∙◌, subst, arith}
 use Rattle.std.specs.Option.{ok_or}
-use Rattle.std.proofs.lemmas.List.{append_assoc, append-nil, take_more_set}
+use Rattle.std.proofs.lemmas.List.{append_assoc, append-nil}
 use Rattle.wiring.specs.declared.rung.Link.{Link}
 use Rattle.cards.specs.declared.fault.CardCause.TheVariants.{LinkField}
 use Rattle.cards.specs.declared.fault.CardFault.{CardFault}
@@ -40,10 +40,10 @@ behind_one xs x (Err e) = refl
 module _ {A : Type 0} (part : ℕ → Result A CardFault) (width : ℕ) where
   -- the first i parts stand in the row, and the rest makes it the whole
   abbrev pub Filled : ℕ → ℕ → ℕ → List A → Type 0
-  Filled count at i row = row_at part width count at ≡ behind (take i row) (row_at part width (count - i) (at + width * i))
+  Filled count at i row = row_at part width count at ≡ behind row (row_at part width (count - i) (at + width * i))
 
-  pub filled_none : (count at : ℕ) (row : List A) → Filled count at 0 row
-  filled_none count at row =
+  pub filled_none : (count at : ℕ) → Filled count at 0 []
+  filled_none count at =
       let a : at + width * 0 ≡ at = omega arith in
       let n : count - 0 ≡ count = omega arith in
       whole (row_at part width count at) ∙ (λ i. behind [] (row_at part width (sym n i) (sym a i)))
@@ -55,27 +55,27 @@ module _ {A : Type 0} (part : ℕ → Result A CardFault) (width : ℕ) where
   step : (n at : ℕ) (r : Result A CardFault) → part at ≡ r → row_at part width (suc n) at ≡ and_then r (λ x. and_then (row_at part width n (at + width)) (λ xs. Ok (x ∷ xs)))
   step n at r e = ap (λ (p : Result A CardFault). and_then p (λ x. and_then (row_at part width n (at + width)) (λ xs. Ok (x ∷ xs)))) e
 
-  pub filled_more : (count at i : ℕ) (row : List A) (x : A) → i < count → i < length row → part (at + width * i) ≡ Ok x → Filled count at i row → Filled count at (i + 1) (set row i x)
-  filled_more count at i row x h room e f =
+  pub filled_more : (count at i : ℕ) (row : List A) (x : A) → i < count → part (at + width * i) ≡ Ok x → Filled count at i row → Filled count at (i + 1) (row ++ x ∷ [])
+  filled_more count at i row x h e f =
       let k : count - i ≡ suc (count - (i + 1)) = omega arith in
       let q : at + width * i + width ≡ at + width * (i + 1) = omega arith in
       f
-      ∙ ap (λ (m : ℕ). behind (take i row) (row_at part width m (at + width * i))) k
-      ∙ ap (behind (take i row)) (step (count - (i + 1)) (at + width * i) (Ok x) e)
-      ∙ behind_one (take i row) x (row_at part width (count - (i + 1)) (at + width * i + width))
-      ∙ (λ t. behind (sym (take_more_set row i x room) t) (row_at part width (count - (i + 1)) (q t)))
+      ∙ ap (λ (m : ℕ). behind row (row_at part width m (at + width * i))) k
+      ∙ ap (behind row) (step (count - (i + 1)) (at + width * i) (Ok x) e)
+      ∙ behind_one row x (row_at part width (count - (i + 1)) (at + width * i + width))
+      ∙ ap (λ (p : ℕ). behind (row ++ x ∷ []) (row_at part width (count - (i + 1)) p)) q
 
   pub filled_fault : (count at i : ℕ) (row : List A) (d : CardFault) → i < count → part (at + width * i) ≡ Err d → Filled count at i row → row_at part width count at ≡ Err d
   filled_fault count at i row d h e f =
       let k : count - i ≡ suc (count - (i + 1)) = omega arith in
       f
-      ∙ ap (λ (m : ℕ). behind (take i row) (row_at part width m (at + width * i))) k
-      ∙ ap (behind (take i row)) (step (count - (i + 1)) (at + width * i) (Err d) e)
+      ∙ ap (λ (m : ℕ). behind row (row_at part width m (at + width * i))) k
+      ∙ ap (behind row) (step (count - (i + 1)) (at + width * i) (Err d) e)
 
-  pub filled_all : (count at i : ℕ) (row : List A) → i ≡ count → Filled count at i row → row_at part width count at ≡ Ok (take count row)
+  pub filled_all : (count at i : ℕ) (row : List A) → i ≡ count → Filled count at i row → row_at part width count at ≡ Ok row
   filled_all count at i row e f =
       let n : count - i ≡ 0 = omega arith in
-      f ∙ ap (λ (m : ℕ). behind (take i row) (row_at part width m (at + width * i))) n ∙ ap Ok (append-nil (take i row)) ∙ ap (λ k. Ok (take k row)) e
+      f ∙ ap (λ (m : ℕ). behind row (row_at part width m (at + width * i))) n ∙ ap Ok (append-nil row)
 
 -- the exit of a `?`
 pub took_fault : {A U : Type 0} (row : List A) {meant : Result (List A) CardFault} {r : Result U CardFault} {d y : CardFault} → meant ≡ Err d → r ≡ Err y → y ≡ d → Took r meant row

@@ -1,6 +1,7 @@
 //! Fields of bits, the most significant first.
 ghost use Rattle.std.specs.Prelude.{◌≡◌, ◌+◌, ◌*◌, ◌<◌, ◌≤◌, length, slice_index};
 ghost use Rattle.cards.specs.Bits.{bits, field_at, moved, Narrow};
+ghost use Rattle.cards.specs.Reading.{Room};
 
 use super::fault::{CardCause, CardFault};
 
@@ -14,7 +15,7 @@ pub(crate) struct Bits<'a> {
 impl Bits<'_> {
     /// The number in the next `width` bits; where the card ends before the field does, nothing moves.
     pub(crate) fn field(&mut self, width: u32) -> Result<u16, CardFault>
-        requires near { self.old.at ≤ 1000000 }
+        requires near { Room self.old width }
         requires narrow { width ≤ 16 }
         ensures value { result ≡ field_at self.old.bytes.now self.old.at width }
         ensures small { Narrow result width }

@@ -4,6 +4,7 @@
 mod bits;
 mod card;
 mod fault;
+mod part;
 mod parts;
 mod progress;
 mod rung;

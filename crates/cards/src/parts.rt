@@ -5,6 +5,7 @@ ghost use Rattle.cards.specs.Rungs.{point_of, contact_of, link_of, action_of, co
 
 use super::bits::Bits;
 use super::fault::{CardCause, CardFault};
+use super::part::Part;
 use points::{Area, Point};
 use wiring::{Action, Coil, Contact, Link};
 
@@ -101,38 +102,38 @@ fn coil_of(action: u16, point: Option<Point>) -> Option<Coil>
     }
 }
 
-impl Bits<'_> {
-    /// The link whose five fields come next.
-    pub(crate) fn link(&mut self, joints: u8) -> Result<Link, CardFault>
-        requires { self.old.at ≤ 500000 }
-        ensures value { result ≡ link_at self.old.bytes.now joints self.old.at }
-        ensures after { OnOk result (self.new.at ≡ self.old.at + 22) }
-        ensures same { self.new.bytes.now ≡ self.old.bytes.now }
-    {
-        let bit = self.at;
-        let from = self.field(5)?;
-        let to = self.field(5)?;
-        let kind = self.field(2)?;
-        let area = self.field(2)?;
-        let number = self.field(8)?;
+/// From 5 bits, to 5, contact 2, area 2, number 8.
+impl Part for Link {
+    ghost width = { 22 };
+
+    ghost part_at = { link_at };
+
+    fn read(bits: &mut Bits<'_>, joints: u8) -> Result<Link, CardFault> {
+        let bit = bits.at;
+        let from = bits.field(5)?;
+        let to = bits.field(5)?;
+        let kind = bits.field(2)?;
+        let area = bits.field(2)?;
+        let number = bits.field(8)?;
         let link = link_of(joints, from, to, contact_of(kind, area, number));
         link.ok_or(CardFault {
             cause: CardCause::LinkField,
             bit,
         })
     }
+}
 
-    /// The coil whose three fields come next.
-    pub(crate) fn coil(&mut self) -> Result<Coil, CardFault>
-        requires { self.old.at ≤ 500000 }
-        ensures value { result ≡ coil_at self.old.bytes.now self.old.at }
-        ensures after { OnOk result (self.new.at ≡ self.old.at + 12) }
-        ensures same { self.new.bytes.now ≡ self.old.bytes.now }
-    {
-        let bit = self.at;
-        let action = self.field(2)?;
-        let area = self.field(2)?;
-        let number = self.field(8)?;
+/// Action 2 bits, area 2, number 8.
+impl Part for Coil {
+    ghost width = { 12 };
+
+    ghost part_at = { λ bytes _ at. coil_at bytes at };
+
+    fn read(bits: &mut Bits<'_>, _: u8) -> Result<Coil, CardFault> {
+        let bit = bits.at;
+        let action = bits.field(2)?;
+        let area = bits.field(2)?;
+        let number = bits.field(8)?;
         let coil = coil_of(action, point_of(area, number));
         coil.ok_or(CardFault {
             cause: CardCause::CoilField,

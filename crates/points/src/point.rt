@@ -7,8 +7,11 @@ use std::error::Error;
 use std::fmt;
 
 /// The three areas of 256 points each, with their numbers in cards and words, where 0 stands for no point.
-#[derive(Clone, Copy, PartialEq, Eq, Debug)]
+///
+/// The default fills the places of a row that are not used.
+#[derive(Clone, Copy, PartialEq, Eq, Debug, Default)]
 pub enum Area {
+    #[default]
     Input = 1,
     Output = 2,
     Marker = 3,
@@ -65,7 +68,7 @@ impl Area {
 }
 
 /// An input, an output or a marker, by its number in its area.
-#[derive(Clone, Copy, PartialEq, Eq, Debug)]
+#[derive(Clone, Copy, PartialEq, Eq, Debug, Default)]
 pub struct Point {
     pub area: Area,
     pub number: u8,

@@ -1,5 +1,5 @@
 -- What the limits of a drawn rung say of the circuit that it means.
-use Rattle.std.proofs.Common.{◌≡◌, ℕ, zero, suc, ◌<◌, ◌≤◌, Bool, true, false, ◌&&◌, ◌≢◌, List, [], ◌∷◌, length, get_or, refl, arith, length-take}
+use Rattle.std.proofs.Common.{◌≡◌, ℕ, zero, suc, ◌<◌, ◌≤◌, Bool, true, false, ◌&&◌, ◌≢◌, List, [], ◌∷◌, length, get_or, refl, arith}
 use Rattle.std.proofs.lemmas.Bool.Decides.{nat_tests}
 use Rattle.wiring.specs.declared.rung.Link.{Link}
 use Rattle.wiring.specs.declared.rung.Rung.{Rung}
@@ -31,11 +31,7 @@ linked-at joints (l ∷ ls) e (suc i) h = linked-at joints ls (and_right _ _ e) 
 
 -- a drawn rung has 64 links at most
 pub links_few : (r : Rung) → length (circuit r).links ≤ 64
-links_few r = let h = length-take r.link_count r.links in let m = r.most_links in omega arith
-
--- and as many as it counts
-pub links_counted : (r : Rung) → length r.links ≡ 64 → length (circuit r).links ≡ r.link_count
-links_counted r e = let h = length-take r.link_count r.links in let m = r.most_links in omega arith
+links_few r = r.most_links
 
 -- every link of a drawn rung lies between two of its joints
 pub link_joins : (r : Rung) (i : ℕ) → i < length (circuit r).links → Joins r.joints (link_at (circuit r) i)

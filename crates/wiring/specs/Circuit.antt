@@ -1,5 +1,5 @@
 -- A circuit: what a drawn rung means, and the wirings that read it.
-use Rattle.std.specs.Prelude.{ℕ, ◌-◌, ◌<◌, ◌↔◌, List, length, take, slice_index_or}
+use Rattle.std.specs.Prelude.{ℕ, ◌-◌, ◌<◌, ◌↔◌, List, length, slice_index_or}
 use Rattle.wiring.specs.declared.rung.Coil.{Coil}
 use Rattle.wiring.specs.declared.rung.Contact.TheVariants.{Wire}
 use Rattle.wiring.specs.declared.rung.Link.{Link}
@@ -14,9 +14,9 @@ pub record Circuit : Type 0 where
   pub links : List Link
   pub coils : List Coil
 
--- the links and coils that a drawn rung counts
+-- the links and coils of a drawn rung
 abbrev pub circuit : Rung → Circuit
-circuit r = record { joints = r.joints; links = take r.link_count r.links; coils = take r.coil_count r.coils }
+circuit r = record { joints = r.joints; links = r.links.items; coils = r.coils.items }
 
 -- the joint that feeds the coils
 abbrev pub coil_joint : Circuit → ℕ
