@@ -15,7 +15,6 @@ pub fn strip_over_board<B: Bank>(
     signal: B::Kind,
 ) -> (Option<B::Kind>, B)
     ensures back { result.0 ≡ read_back (B.points bank) input signal }
-    ensures stays { B.seat result.1 ≡ B.seat bank }
     ensures untouched { B.rest result.1 ≡ B.rest bank }
 {
     let mut board = PatchBoard::over(bank);
@@ -34,7 +33,6 @@ pub fn board_over_strip<B: Bank>(
     signal: B::Kind,
 ) -> (Option<B::Kind>, B)
     ensures back { result.0 ≡ read_back (B.points bank) input signal }
-    ensures stays { B.seat result.1 ≡ B.seat bank }
     ensures untouched { B.rest result.1 ≡ B.rest bank }
 {
     let mut strip = Strip::over(bank);

@@ -10,6 +10,10 @@ read_back xs i s = cond (nat_lt i (length xs)) (Some s) None
 abbrev pub Elsewhere : {S : Type 0} → ℕ → List S → List S → Type 0
 Elsewhere i before after = (j : ℕ) → (j ≢ i) → slice_get after j ≡ slice_get before j
 
+-- the rest of a bank over lent memory: which memory it is, and what lies there beyond the points
+abbrev pub lent : {A : Type 0} → ℕ → List A → ℕ × List A
+lent memory beyond = (memory, beyond)
+
 -- the rest of a layer: how it is arranged, and the rest of the bank below
 abbrev pub layered : {A R : Type 0} → A → R → A × R
 layered arranged below = (arranged, below)

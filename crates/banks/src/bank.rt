@@ -1,5 +1,5 @@
 //! What every bank offers.
-ghost use Rattle.std.specs.Prelude.{◌≡◌, ℕ, ◌≤◌, List, length, nat_lt, slice_set};
+ghost use Rattle.std.specs.Prelude.{◌≡◌, ◌≤◌, List, length, nat_lt, slice_set};
 ghost use Rattle.std.specs.List.{slice_get};
 
 use signals::Signal;
@@ -14,10 +14,8 @@ pub trait Bank {
     /// Of every bank, that it means no more than 768. A law could not be kept by a bank over lent memory.
     ghost short: { (b : Self) → length (points b) ≤ 768 };
 
-    /// Which lent memory the bank stands on. A write keeps it, so the lender learns what is left there.
-    ghost seat: { Self → ℕ };
-
-    /// All of the bank but its points, as the memory beyond them, marks and tables. A write keeps it.
+    /// All of the bank but its points: which lent memory it stands on, what lies there beyond the points, marks and
+    /// tables. A write keeps it, so the lender learns what is left there.
     ghost Rest: { Type 0 };
 
     ghost rest: { Self → Rest };
@@ -34,6 +32,5 @@ pub trait Bank {
     fn write(&mut self, index: usize, signal: Self::Kind) -> bool
         ensures told { result ≡ nat_lt index (length (points self.old)) }
         ensures after { points self.new ≡ slice_set (points self.old) index signal }
-        ensures stays { seat self.new ≡ seat self.old }
         ensures untouched { rest self.new ≡ rest self.old };
 }

@@ -15,7 +15,6 @@ pub fn write_and_read<B: Bank>(bank: &mut B, index: usize, signal: B::Kind) -> O
     ensures back { result ≡ read_back (B.points bank.old) index signal }
     ensures elsewhere { Elsewhere index (B.points bank.old) (B.points bank.new) }
     ensures count { length (B.points bank.new) ≡ length (B.points bank.old) }
-    ensures stays { B.seat bank.new ≡ B.seat bank.old }
     ensures untouched { B.rest bank.new ≡ B.rest bank.old }
 {
     let _ = bank.write(index, signal);

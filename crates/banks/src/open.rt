@@ -1,6 +1,7 @@
 //! The open bank: one signal a point, in memory given to it.
-ghost use Rattle.std.specs.Prelude.{◌≡◌, ◌≤◌, List, length, take, drop, nat_lt, slice_set};
+ghost use Rattle.std.specs.Prelude.{◌≡◌, ℕ, ◌≤◌, List, length, take, drop, nat_lt, slice_set};
 ghost use Rattle.std.specs.List.{slice_get};
+ghost use Rattle.banks.specs.Kept.{lent};
 ghost use Rattle.banks.specs.Short.{open_short};
 
 use crate::bank::Bank;
@@ -65,11 +66,9 @@ impl<'a, S: Signal> Bank for OpenBank<'a, S> {
 
     ghost short = { λ b. open_short b.slots.now };
 
-    ghost seat = { λ b. b.slots.ghost_name };
+    ghost Rest = { ℕ × List S };
 
-    ghost Rest = { List S };
-
-    ghost rest = { λ b. drop 768 b.slots.now };
+    ghost rest = { λ b. lent b.slots.ghost_name (drop 768 b.slots.now) };
 
     fn count(&self) -> usize {
         slots_count(self.slots)

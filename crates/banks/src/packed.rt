@@ -1,6 +1,7 @@
 //! The packed bank: the doubtful kind, two bits a point, four points a byte.
 ghost use Rattle.std.specs.Prelude.{◌≡◌, ℕ, ◌<◌, List, length, drop, ◌≢◌, nat_lt, slice_set};
 ghost use Rattle.std.specs.List.{slice_get};
+ghost use Rattle.banks.specs.Kept.{lent};
 ghost use Rattle.banks.specs.Packing.{meant, written, pair, with_pair, held, bits_of, unpacked, packed};
 ghost use Rattle.banks.specs.Short.{packed_short};
 
@@ -113,11 +114,9 @@ impl<'a> Bank for PackedBank<'a> {
 
     ghost short = { λ b. packed_short b.bytes.now };
 
-    ghost seat = { λ b. b.bytes.ghost_name };
+    ghost Rest = { ℕ × List ℕ };
 
-    ghost Rest = { List ℕ };
-
-    ghost rest = { λ b. drop 192 b.bytes.now };
+    ghost rest = { λ b. lent b.bytes.ghost_name (drop 192 b.bytes.now) };
 
     fn count(&self) -> usize {
         bytes_count(self.bytes)
@@ -131,8 +130,7 @@ impl<'a> Bank for PackedBank<'a> {
     fn write(&mut self, index: usize, signal: Doubtful) -> bool
         ensures told { result ≡ nat_lt index (length (unpacked self.old.bytes.now)) }
         ensures after { unpacked self.new.bytes.now ≡ slice_set (unpacked self.old.bytes.now) index signal }
-        ensures stays { self.new.bytes.ghost_name ≡ self.old.bytes.ghost_name }
-        ensures untouched { drop 192 self.new.bytes.now ≡ drop 192 self.old.bytes.now }
+        ensures untouched { lent self.new.bytes.ghost_name (drop 192 self.new.bytes.now) ≡ lent self.old.bytes.ghost_name (drop 192 self.old.bytes.now) }
         ensures whole { self.new.bytes.now ≡ packed self.old.bytes.now index signal }
         ensures others { (k : ℕ) → (k ≢ index) → bits_of self.new.bytes.now k ≡ bits_of self.old.bytes.now k }
     {

@@ -77,8 +77,6 @@ impl<B: Bank> Bank for PatchBoard<B> {
 
     ghost short = { λ b. patched_short B.Kind.Signal.kind b.table.to (B.Bank.points b.bank) (B.Bank.short b.bank) };
 
-    ghost seat = { λ b. B.Bank.seat b.bank };
-
     ghost Rest = { List ℕ × B.Bank.Rest };
 
     ghost rest = { λ b. layered b.table.to (B.Bank.rest b.bank) };
@@ -96,7 +94,6 @@ impl<B: Bank> Bank for PatchBoard<B> {
     fn write(&mut self, index: usize, signal: B::Kind) -> bool
         ensures told { result ≡ nat_lt index (length (board_shows B.Kind.Signal.kind B.Bank.points self.old)) }
         ensures after { board_shows B.Kind.Signal.kind B.Bank.points self.new ≡ slice_set (board_shows B.Kind.Signal.kind B.Bank.points self.old) index signal }
-        ensures stays { B.Bank.seat self.new.bank ≡ B.Bank.seat self.old.bank }
         ensures untouched { layered self.new.table.to (B.Bank.rest self.new.bank) ≡ layered self.old.table.to (B.Bank.rest self.old.bank) }
         ensures below { B.Bank.points self.new.bank ≡ slice_set (B.Bank.points self.old.bank) (place self.old.table.to (length (B.Bank.points self.old.bank)) index) signal }
     {

@@ -106,8 +106,6 @@ impl<B: Bank> Bank for Strip<B> {
 
     ghost short = { λ b. shown_short B.Kind.Signal.kind b.marks (B.Bank.points b.bank) (B.Bank.short b.bank) };
 
-    ghost seat = { λ b. B.Bank.seat b.bank };
-
     ghost Rest = { List Bool × B.Bank.Rest };
 
     ghost rest = { λ b. layered b.marks (B.Bank.rest b.bank) };
@@ -127,7 +125,6 @@ impl<B: Bank> Bank for Strip<B> {
     fn write(&mut self, index: usize, signal: B::Kind) -> bool
         ensures told { result ≡ nat_lt index (length (strip_shows B.Kind.Signal.kind B.Bank.points self.old)) }
         ensures after { strip_shows B.Kind.Signal.kind B.Bank.points self.new ≡ slice_set (strip_shows B.Kind.Signal.kind B.Bank.points self.old) index signal }
-        ensures stays { B.Bank.seat self.new.bank ≡ B.Bank.seat self.old.bank }
         ensures untouched { layered self.new.marks (B.Bank.rest self.new.bank) ≡ layered self.old.marks (B.Bank.rest self.old.bank) }
         ensures below { B.Bank.points self.new.bank ≡ slice_set (B.Bank.points self.old.bank) index (past B.Kind.Signal.kind (slice_index_or self.old.marks index false) signal) }
     {

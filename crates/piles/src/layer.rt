@@ -1,6 +1,6 @@
 //! A layer that is chosen while a program runs.
 ghost use Rattle.std.specs.Prelude.{ℕ, Bool, List};
-ghost use Rattle.piles.specs.Layered.{layer_shows, bottom, layer_short, layer_rest};
+ghost use Rattle.piles.specs.Layered.{layer_shows, layer_short, layer_rest};
 
 use banks::{Bank, PatchBoard, Strip};
 
@@ -18,8 +18,6 @@ impl<B: Bank> Bank for Layer<B> {
     ghost points = { λ b. layer_shows B.Kind.Signal.kind B.Bank.points b };
 
     ghost short = { λ b. layer_short B.Kind.Signal.kind B.Bank.points B.Bank.short b };
-
-    ghost seat = { λ b. B.Bank.seat (bottom b) };
 
     ghost Rest = { List Bool × List ℕ × B.Bank.Rest };
 

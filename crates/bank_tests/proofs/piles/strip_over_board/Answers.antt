@@ -12,6 +12,5 @@ returns g c =
     let done = c.write_and_read-read.ensures in
     record {
       back = done.back ∙ ap (λ (n : ℕ). cond (ltb c.args.input n) (Some c.args.signal) None) (length-shown k top.marks (patched k top.bank.table.to (g.B.Bank.points top.bank.bank)) ∙ length-patched k top.bank.table.to (g.B.Bank.points top.bank.bank) ∙ ap (λ b. length (g.B.Bank.points b)) home);
-      stays = ap g.B.Bank.seat handed ∙ done.stays ∙ ap g.B.Bank.seat home;
       untouched = ap g.B.Bank.rest handed ∙ ap (λ l. l.1.1) done.untouched ∙ ap g.B.Bank.rest home;
     }

@@ -13,6 +13,5 @@ returns g c =
       back = c.read.ensures ∙ ap (λ ys. slice_get ys i) after ∙ set_back xs i s;
       elsewhere = λ j n. ap (λ ys. slice_get ys j) after ∙ set_elsewhere xs i s j n;
       count = ap length after ∙ length-set xs i s;
-      stays = c.write.ensures.stays;
       untouched = c.write.ensures.untouched;
     }

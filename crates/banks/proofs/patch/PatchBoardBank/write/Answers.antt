@@ -17,7 +17,6 @@ returns g c =
     record {
       told = c.write.ensures.told ∙ ap (λ i. ltb i (length xs)) e ∙ place_test t.to p (length xs) c.args.index ∙ ap (ltb c.args.index) (sym (length-patched k t.to xs));
       after = ap (patched k t.to) below ∙ set-patched t.to p k xs c.args.index c.args.signal;
-      stays = c.write.ensures.stays;
       untouched = ap (layered t.to) c.write.ensures.untouched;
       below = below;
     }

@@ -14,7 +14,6 @@ returns g c =
     record {
       told = c.write.ensures.told ∙ ap (ltb c.args.index) (sym (length-shown k ms xs));
       after = ap (shown k ms) below ∙ set-shown k g.met.B.Kind.Signal.laws ms xs c.args.index c.args.signal;
-      stays = c.write.ensures.stays;
       untouched = ap (layered ms) c.write.ensures.untouched;
       below = below;
     }
