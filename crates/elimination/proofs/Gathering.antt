@@ -1,6 +1,7 @@
 -- A branch group, one slot at a time.
-use Rattle.std.proofs.Common.{◌≡◌, ℕ, zero, suc, ◌+◌, ◌-◌, ◌<◌, ◌≤◌, min, List, [], ◌∷◌, map, length, get_or, drop, Some, None, Option, sym, refl, ap, ◌∙◌, subst, ap₂, arith}
-use Rattle.std.proofs.lemmas.List.{drop_all}
+use Rattle.std.proofs.Common.{◌≡◌, ℕ, zero, suc, ◌+◌, ◌<◌, ◌≤◌, min, List, [], ◌∷◌, ◌++◌, map, length, get_or, drop, Some, None, Option, sym, refl, ap, ◌∙◌, subst, ap₂, add-zero, append_assoc, length-append, arith}
+use Rattle.std.proofs.lemmas.List.{drop_all, append-nil, get_or-drop}
+use Rattle.std.proofs.Math.Seq.{drop-append_seam}
 use Rattle.wiring.specs.Elimination.{Edge}
 use Rattle.wiring.specs.Text.{link_text, in_series, in_parallel, text}
 use Rattle.wiring.specs.Wiring.{Wiring, series, parallel}
@@ -12,7 +13,6 @@ use Rattle.elimination.specs.Groups.{Grown, Sits, SitsGroup, Room, size, Extends
 use Rattle.elimination.specs.Slots.{edge, edges, live, touch, low_at, Fine, Stands}
 use Rattle.elimination.specs.Trees.{tree_at}
 use Rattle.elimination.proofs.Edges.{touch_some}
-use Rattle.elimination.proofs.Scans.{back_one}
 
 -- what a table that grows keeps
 pub grown-same : (ns : List Node) (len : ℕ) → Grown ns len ns len
@@ -82,22 +82,59 @@ gathered_more i (Some a) l ns len ns1 len1 ns2 len2 (Some k) r f h G p x =
       group = subst (λ z. Holds i ns2 len2 (edge ns a ∷ edges ns l) z) (sym x.0) (holds_more i ns len ns1 len1 ns2 len2 a (edges ns l) k (f a refl) h G.grown x.1 x.2 G.group);
     }
 
--- before the first slot, and one slot back
-pub gathered_none : (i : ℕ) (s : Side) (x : ℕ) (xs : List (Option Active)) (ns : List Node) (len : ℕ) → length xs ≤ i → Gathered i (map (touch s x) (drop i xs)) ns len ns len None
-gathered_none i s x xs ns len h =
-    subst (λ l. Gathered i (map (touch s x) l) ns len ns len None) (sym (drop_all i xs h))
-    (record { grown = grown-same ns len; room = refl; group = tt })
+-- the scan from the last slot to the first stands behind these slots, and has gathered the later ones
+pub record Gathering (before : List (Option Active)) (s : Side) (x : ℕ) (xs : List (Option Active)) (ns : List Node) (len : ℕ) (ns' : List Node) (len' : ℕ) (g : Option Group) : Type 0 where
+  pub whole : before ++ drop (length before) xs ≡ xs
+  pub done : Gathered (length before) (map (touch s x) (drop (length before) xs)) ns len ns' len' g
 
-pub gathered_back : (i : ℕ) (s : Side) (x : ℕ) (xs : List (Option Active)) (ns : List Node) (len : ℕ) (ns1 : List Node) (len1 : ℕ) (ns2 : List Node) (len2 : ℕ) (o : Option Active) (g r : Option Group) → 0 < i → i ≤ 64 → length xs ≡ 64 → Stands ns len xs → o ≡ touch s x (get_or xs (i - 1) None) → Gathered i (map (touch s x) (drop i xs)) ns len ns1 len1 g → Grown ns1 len1 ns2 len2 → Extends (i - 1) ns1 len1 ns2 len2 o g r → Gathered (i - 1) (map (touch s x) (drop (i - 1) xs)) ns len ns2 len2 r
-gathered_back i s x xs ns len ns1 len1 ns2 len2 o g r p h m S e G q X =
-    let n : i - 1 + 1 ≡ i = omega arith in
-    subst (λ l. Gathered (i - 1) (map (touch s x) l) ns len ns2 len2 r) (sym (back_one xs i None p (omega arith)))
-    (gathered_more (i - 1) (touch s x (get_or xs (i - 1) None)) (map (touch s x) (drop i xs)) ns len ns1 len1 ns2 len2 g r
-    (λ a t. S (i - 1) a (touch_some s x (get_or xs (i - 1) None) a t))
-    (omega arith)
-    (subst (λ j. Gathered j (map (touch s x) (drop i xs)) ns len ns1 len1 g) (sym n) G)
-    q
-    (subst (λ z. Extends (i - 1) ns1 len1 ns2 len2 z g r) e X))
+pub gathering_none : (before : List (Option Active)) (s : Side) (x : ℕ) (xs : List (Option Active)) (ns : List Node) (len : ℕ) → before ≡ xs → Gathering before s x xs ns len ns len None
+gathering_none before s x xs ns len e =
+    let d : drop (length before) xs ≡ [] = drop_all (length before) xs (let n = ap length e in omega arith) in
+    record {
+      whole = ap (λ l. before ++ l) d ∙ append-nil before ∙ e;
+      done = subst (λ l. Gathered (length before) (map (touch s x) l) ns len ns len None) (sym d)
+          (record { grown = grown-same ns len; room = refl; group = tt });
+    }
+
+pub gathering_all : (before : List (Option Active)) (s : Side) (x : ℕ) (xs : List (Option Active)) (ns : List Node) (len : ℕ) (ns' : List Node) (len' : ℕ) (g : Option Group) → length before ≡ 0 → Gathering before s x xs ns len ns' len' g → Gathered 0 (map (touch s x) xs) ns len ns' len' g
+gathering_all before s x xs ns len ns' len' g e G = subst (λ n. Gathered n (map (touch s x) (drop n xs)) ns len ns' len' g) e G.done
+
+-- one slot back: it is the slot at its position
+pub record Back (left : List (Option Active)) (t : Option Active) (xs : List (Option Active)) : Type 0 where
+  pub split : drop (length left) xs ≡ t ∷ drop (length left + 1) xs
+  pub whole : left ++ drop (length left) xs ≡ xs
+  pub is : get_or xs (length left) None ≡ t
+  pub within : length left < length xs
+
+pub back : (before left : List (Option Active)) (t : Option Active) (xs : List (Option Active)) → before ≡ left ++ (t ∷ []) → before ++ drop (length before) xs ≡ xs → Back left t xs
+back before left t xs e w =
+    let n : length before ≡ length left + 1 = ap length e ∙ length-append left (t ∷ []) in
+    let f : left ++ (t ∷ drop (length left + 1) xs) ≡ xs = sym (append_assoc left (t ∷ []) (drop (length left + 1) xs)) ∙ ap₂ (λ l k. l ++ drop k xs) (sym e) (sym n) ∙ w in
+    let d : drop (length left) xs ≡ t ∷ drop (length left + 1) xs = ap (drop (length left)) (sym f) ∙ drop-append_seam left (t ∷ drop (length left + 1) xs) in
+    let m = length-append left (t ∷ drop (length left + 1) xs) in
+    let k = ap length f in
+    record {
+      split = d;
+      whole = ap (λ l. left ++ l) d ∙ f;
+      is = ap (λ k. get_or xs k None) (sym (add-zero (length left))) ∙ sym (get_or-drop (length left) xs 0 None) ∙ ap (λ l. get_or l 0 None) d;
+      within = omega arith;
+    }
+
+pub gathering_more : (before left : List (Option Active)) (t : Option Active) (i : ℕ) (s : Side) (x : ℕ) (xs : List (Option Active)) (ns : List Node) (len : ℕ) (ns1 : List Node) (len1 : ℕ) (ns2 : List Node) (len2 : ℕ) (o : Option Active) (g r : Option Group) → before ≡ left ++ (t ∷ []) → i ≡ length left → length xs ≡ 64 → Stands ns len xs → o ≡ touch s x t → Gathering before s x xs ns len ns1 len1 g → Grown ns1 len1 ns2 len2 → Extends i ns1 len1 ns2 len2 o g r → Gathering left s x xs ns len ns2 len2 r
+gathering_more before left t i s x xs ns len ns1 len1 ns2 len2 o g r e j m S q G p X =
+    let B = back before left t xs e G.whole in
+    let n : length before ≡ length left + 1 = ap length e ∙ length-append left (t ∷ []) in
+    let w = B.within in
+    record {
+      whole = B.whole;
+      done = subst (λ l. Gathered (length left) (map (touch s x) l) ns len ns2 len2 r) (sym B.split)
+          (gathered_more (length left) (touch s x t) (map (touch s x) (drop (length left + 1) xs)) ns len ns1 len1 ns2 len2 g r
+          (λ a h. S (length left) a (B.is ∙ touch_some s x t a h))
+          (omega arith)
+          (subst (λ k. Gathered k (map (touch s x) (drop k xs)) ns len ns1 len1 g) n G.done)
+          p
+          (subst (λ z. Extends (length left) ns1 len1 ns2 len2 z g r) q (subst (λ k. Extends k ns1 len1 ns2 len2 o g r) j X)));
+    }
 
 -- what the next turn asks
 live-drop : (f : Option Active → Option Active) (xs : List (Option Active)) (i : ℕ) → live (map f (drop i xs)) ≤ live (map f xs)
@@ -123,12 +160,14 @@ has_room len len1 m None l g a b c = tt
 has_room len len1 m (Some x) l None a b c = tt
 has_room len len1 m (Some x) l (Some h) a b c = omega arith
 
-pub asks : (i : ℕ) (s : Side) (x : ℕ) (xs : List (Option Active)) (ns : List Node) (len : ℕ) (ns1 : List Node) (len1 : ℕ) (o : Option Active) (g : Option Group) → 0 < i → i ≤ 64 → length xs ≡ 64 → Stands ns len xs → len + live (map (touch s x) xs) ≤ 128 → o ≡ touch s x (get_or xs (i - 1) None) → Gathered i (map (touch s x) (drop i xs)) ns len ns1 len1 g → Sits len1 o × SitsGroup len1 g × Room len1 o g
-asks i s x xs ns len ns1 len1 o g p h m S room e G =
-    let t = touch s x (get_or xs (i - 1) None) in
-    let d = live-drop (touch s x) xs (i - 1) in
-    let b : live (t ∷ map (touch s x) (drop i xs)) ≤ live (map (touch s x) xs) = subst (λ l. live (map (touch s x) l) ≤ live (map (touch s x) xs)) (back_one xs i None p (omega arith)) d in (
-      sits len len1 G.grown.more o (λ a q. (S (i - 1) a (touch_some s x (get_or xs (i - 1) None) a (sym e ∙ q))).at),
-      sits_group i ns1 len1 (edges ns (map (touch s x) (drop i xs))) g G.group,
-      subst (λ z. Room len1 z g) (sym e) (has_room len len1 (live (map (touch s x) xs)) t (map (touch s x) (drop i xs)) g G.room b room),
+pub asks : (before left : List (Option Active)) (t : Option Active) (s : Side) (x : ℕ) (xs : List (Option Active)) (ns : List Node) (len : ℕ) (ns1 : List Node) (len1 : ℕ) (o : Option Active) (g : Option Group) → before ≡ left ++ (t ∷ []) → Stands ns len xs → len + live (map (touch s x) xs) ≤ 128 → o ≡ touch s x t → Gathering before s x xs ns len ns1 len1 g → Sits len1 o × SitsGroup len1 g × Room len1 o g
+asks before left t s x xs ns len ns1 len1 o g e S room q G =
+    let B = back before left t xs e G.whole in
+    let n : length before ≡ length left + 1 = ap length e ∙ length-append left (t ∷ []) in
+    let K : Gathered (length left + 1) (map (touch s x) (drop (length left + 1) xs)) ns len ns1 len1 g = subst (λ k. Gathered k (map (touch s x) (drop k xs)) ns len ns1 len1 g) n G.done in
+    let d = live-drop (touch s x) xs (length left) in
+    let b : live (touch s x t ∷ map (touch s x) (drop (length left + 1) xs)) ≤ live (map (touch s x) xs) = subst (λ l. live (map (touch s x) l) ≤ live (map (touch s x) xs)) B.split d in (
+      sits len len1 K.grown.more o (λ a h. (S (length left) a (B.is ∙ touch_some s x t a (sym q ∙ h))).at),
+      sits_group (length left + 1) ns1 len1 (edges ns (map (touch s x) (drop (length left + 1) xs))) g K.group,
+      subst (λ z. Room len1 z g) (sym q) (has_room len len1 (live (map (touch s x) xs)) (touch s x t) (map (touch s x) (drop (length left + 1) xs)) g K.room b room),
     )

@@ -1,6 +1,5 @@
 pub mod Falls
 pub mod Edges
-pub mod Scans
 pub mod Gathering
 pub mod Merging
 pub mod Eliminating

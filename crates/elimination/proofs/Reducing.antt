@@ -15,10 +15,10 @@ use Rattle.elimination.specs.declared.groups.Passage.{Passage}
 use Rattle.elimination.specs.declared.slots.Active.{Active}
 use Rattle.elimination.specs.declared.slots.Side.TheVariants.{Leaving}
 use Rattle.elimination.specs.declared.table.Node.{Node}
-use Rattle.elimination.specs.Reduction.{Picked, AllGone, left_of, Eliminated, Work, NoReading, Outcome}
+use Rattle.elimination.specs.Reduction.{Picked, left_of, Eliminated, Work, NoReading, Outcome}
 use Rattle.elimination.specs.Slots.{edge, edges, live, touch, straight, Stands}
 use Rattle.elimination.proofs.Edges.{rising_edges}
-use Rattle.elimination.proofs.Picking.{not_chosen, picked_may}
+use Rattle.elimination.proofs.Picking.{AllGone, not_chosen, picked_may}
 use Rattle.elimination.proofs.Placing.{none-at}
 
 -- the joints that are left become fewer

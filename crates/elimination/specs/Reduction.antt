@@ -1,5 +1,5 @@
 -- How far the elimination has come: this file serves the recognition's own contracts, and is not part of what a reader must believe.
-use Rattle.std.specs.Prelude.{◌≡◌, ℕ, suc, ◌+◌, ◌-◌, ◌<◌, ◌≤◌, Bool, true, false, ◌≢◌, ◌⊎◌, List, [], ◌∷◌, map, length, get_or, Some, None, Option, slice_index_or}
+use Rattle.std.specs.Prelude.{◌≡◌, ℕ, suc, ◌+◌, ◌-◌, ◌<◌, ◌≤◌, Bool, true, false, ◌≢◌, ◌⊎◌, List, [], ◌∷◌, length, get_or, Some, None, Option, slice_index_or}
 use Rattle.wiring.specs.Circuit.{Circuit, bare, Reads}
 use Rattle.wiring.specs.declared.rung.Link.{Link}
 use Rattle.wiring.specs.Elimination.{Edge, Step, Reaches, Starts, InRange, first-edges}
@@ -7,34 +7,25 @@ use Rattle.wiring.specs.Lists.{In}
 use Rattle.wiring.specs.Wiring.{Wiring}
 use Rattle.elimination.specs.declared.groups.Passage.{Passage}
 use Rattle.elimination.specs.declared.slots.Active.{Active}
-use Rattle.elimination.specs.declared.slots.FarEnds.{FarEnds}
-use Rattle.elimination.specs.declared.slots.FarEnds.TheVariants.{Nothing, One, Several}
 use Rattle.elimination.specs.declared.slots.Side.TheVariants.{Entering, Leaving}
 use Rattle.elimination.specs.declared.table.Node.{Node}
-use Rattle.elimination.specs.Slots.{edges, live, touch, neighbours, straight, Stands}
+use Rattle.elimination.specs.Slots.{edges, live, far_ends, only_of, straight, Stands}
 
--- the way through a joint with one joint before it and one behind it
-abbrev pub passage_of : ℕ → FarEnds → FarEnds → Option Passage
-passage_of x Nothing b = None
-passage_of x Several b = None
-passage_of x (One u) Nothing = None
-passage_of x (One u) Several = None
-passage_of x (One u) (One w) = Some (record { joint = x; from = u; to = w })
+-- the way through a joint, if one joint is before it and one behind it
+abbrev pub passage_of : ℕ → Option ℕ → Option ℕ → Option Passage
+passage_of x None b = None
+passage_of x (Some u) None = None
+passage_of x (Some u) (Some w) = Some (record { joint = x; from = u; to = w })
 
 -- the joint x, if it is not gone and can be eliminated
 abbrev pub candidate_of : Bool → ℕ → List (Option Active) → Option Passage
 candidate_of true x l = None
-candidate_of false x l = passage_of x (neighbours Entering (map (touch Entering x) l)) (neighbours Leaving (map (touch Leaving x) l))
+candidate_of false x l = passage_of x (only_of (far_ends Entering x l)) (only_of (far_ends Leaving x l))
 
 -- an inner joint that is not gone and can be eliminated, or that there is none
 abbrev pub Picked : ℕ → List Bool → List (Option Active) → Option Passage → Type 0
 Picked joints gone l None = (x : ℕ) → 0 < x → x + 1 < joints → candidate_of (slice_index_or gone x false) x l ≡ None
 Picked joints gone l (Some p) = (0 < p.joint) × (p.joint + 1 < joints) × (candidate_of (slice_index_or gone p.joint false) p.joint l ≡ Some p)
-
--- every inner joint is gone, or one is not
-abbrev pub AllGone : ℕ → List Bool → Bool → Type 0
-AllGone joints gone true = (y : ℕ) → 0 < y → y + 1 < joints → slice_index_or gone y false ≡ true
-AllGone joints gone false = (y : ℕ) × (0 < y) × (y + 1 < joints) × (slice_index_or gone y false ≡ false)
 
 -- how many joints are not gone
 abbrev pub left_of : List Bool → ℕ

@@ -1,10 +1,9 @@
 -- What the slots stand for: this file serves the recognition's own contracts, and is not part of what a reader must believe.
-use Rattle.std.specs.Prelude.{◌≡◌, ℕ, suc, ◌<◌, Bool, true, cond, ◌&&◌, ◌||◌, ◌≢◌, List, [], ◌∷◌, Some, None, Option, ◌==◌, slice_index_or}
+use Rattle.std.specs.Prelude.{◌≡◌, ℕ, suc, ◌<◌, Bool, true, cond, ◌&&◌, ◌||◌, ◌≢◌, List, [], ◌∷◌, map, Some, None, Option, ◌==◌, slice_index_or}
+use Rattle.std.specs.List.{filter_map, list_all}
 use Rattle.wiring.specs.Elimination.{Edge}
 use Rattle.wiring.specs.Text.{link_text, text}
 use Rattle.elimination.specs.declared.slots.Active.{Active}
-use Rattle.elimination.specs.declared.slots.FarEnds.{FarEnds}
-use Rattle.elimination.specs.declared.slots.FarEnds.TheVariants.{Nothing, One, Several}
 use Rattle.elimination.specs.declared.slots.Side.{Side}
 use Rattle.elimination.specs.declared.slots.Side.TheVariants.{Entering, Leaving}
 use Rattle.elimination.specs.declared.table.Node.{Node}
@@ -46,21 +45,14 @@ abbrev pub spared : ℕ → Option Active → Option Active
 spared x None = None
 spared x (Some a) = cond (a.from == x || a.to == x) None (Some a)
 
--- far ends with the joint u
-abbrev pub with_end : ℕ → FarEnds → FarEnds
-with_end u Nothing = One u
-with_end u (One v) = cond (u == v) (One v) Several
-with_end u Several = Several
+-- the far ends of the edges that touch the joint x at that side
+abbrev pub far_ends : Side → ℕ → List (Option Active) → List ℕ
+far_ends s x l = map (far_of s) (filter_map (touch s x) l)
 
--- far ends with that of one slot more
-abbrev pub added : Side → Option Active → FarEnds → FarEnds
-added s None r = r
-added s (Some a) r = with_end (far_of s a) r
-
--- the far ends of these edges: none, one, or several
-abbrev pub neighbours : Side → List (Option Active) → FarEnds
-neighbours s [] = Nothing
-neighbours s (o ∷ l) = added s o (neighbours s l)
+-- the number that all these numbers are, if there is one
+abbrev pub only_of : List ℕ → Option ℕ
+only_of [] = None
+only_of (u ∷ l) = cond (list_all (λ v. v == u) l) (Some u) None
 
 -- an edge goes from joint 0 to the joint c
 abbrev pub runs_straight : ℕ → Option Active → Bool
@@ -69,8 +61,7 @@ runs_straight c (Some a) = a.from == 0 && a.to == c
 
 -- all edges do
 abbrev pub straight : ℕ → List (Option Active) → Bool
-straight c [] = true
-straight c (o ∷ l) = runs_straight c o && straight c l
+straight c l = list_all (runs_straight c) l
 
 -- the lowest link of the wiring at a position
 abbrev pub low_at : List Node → ℕ → ℕ

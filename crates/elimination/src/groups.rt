@@ -47,8 +47,8 @@ pub(crate) fn gather(table: &mut Table, slots: &Slots, side: Side, joint: u8) ->
     ensures { Gathered 0 (map (touch side joint) slots.now) table.old.nodes table.old.len table.new.nodes table.new.len result }
 {
     let mut group = None;
-    for i in (0..64).rev() {
-        group = extend(table, touching(slots[i], side, joint), i as u8, group);
+    for (i, slot) in slots.iter().enumerate().rev() {
+        group = extend(table, touching(*slot, side, joint), i as u8, group);
     }
     group
 }

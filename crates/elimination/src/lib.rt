@@ -25,11 +25,11 @@ fn place(table: &mut Table, slots: &mut Slots, links: &[Link])
     requires slots { slots.old ≡ replicate 64 None }
     ensures { Placed (length links.now) links.now slots.new table.new.nodes table.new.len }
 {
-    for i in 0..links.len() {
+    for (i, link) in links.iter().enumerate() {
         let at = table.push(Node::Link(i as u8));
         slots[i] = Some(Active {
-            from: links[i].from,
-            to: links[i].to,
+            from: link.from,
+            to: link.to,
             at,
         });
     }
@@ -46,8 +46,6 @@ pub fn decompose(rung: &Rung, table: &mut Table) -> Option<u8>
     if !reduce(table, &mut slots, rung.joints as usize) {
         return None;
     }
-    match gather(table, &slots, Side::Leaving, 0) {
-        None => None,
-        Some(group) => Some(group.at),
-    }
+    let group = gather(table, &slots, Side::Leaving, 0)?;
+    Some(group.at)
 }

@@ -1,33 +1,24 @@
 //! The elimination of one joint after the other.
 ghost use Rattle.std.specs.Prelude.{◌≡◌, ◌+◌, ◌≤◌, ◌≢◌};
+ghost use Rattle.std.specs.List.{list_all};
 ghost use Rattle.wiring.specs.Elimination.{Eligible};
 ghost use Rattle.elimination.specs.Slots.{edges, live, Stands};
-ghost use Rattle.elimination.specs.Reduction.{passage_of, candidate_of, Picked, AllGone, Eliminated, Outcome};
+ghost use Rattle.elimination.specs.Reduction.{candidate_of, Picked, Eliminated, Outcome};
 
 use crate::groups::{Passage, merge};
-use crate::slots::{Active, FarEnds, Side, Slots, all_straight, clear, far_ends};
+use crate::slots::{Active, Side, Slots, all_straight, clear, only_end};
 use crate::table::Table;
 
-/// The way through a joint, if there is one joint before it and one behind it.
-fn through(joint: u8, into: FarEnds, out: FarEnds) -> Option<Passage>
-    ensures { result ≡ passage_of joint into out }
-{
-    match (into, out) {
-        (FarEnds::One(from), FarEnds::One(to)) => Some(Passage { joint, from, to }),
-        _ => None,
-    }
-}
-
-/// The joint, if it is not gone and can be eliminated.
+/// The way through a joint that is not gone, if one joint is before it and one behind it.
 fn candidate(slots: &Slots, gone: bool, joint: u8) -> Option<Passage>
     ensures { result ≡ candidate_of gone joint slots.now }
 {
     if gone {
         return None;
     }
-    let into = far_ends(slots, Side::Entering, joint);
-    let out = far_ends(slots, Side::Leaving, joint);
-    through(joint, into, out)
+    let from = only_end(slots, Side::Entering, joint)?;
+    let to = only_end(slots, Side::Leaving, joint)?;
+    Some(Passage { joint, from, to })
 }
 
 /// An inner joint that is not gone and can be eliminated.
@@ -36,26 +27,19 @@ fn pick(slots: &Slots, gone: &[bool; 32], joints: usize) -> Option<Passage>
     requires most { joints ≤ 32 }
     ensures { Picked joints gone.now slots.now result }
 {
-    for x in 1..joints - 1 {
-        if let Some(passage) = candidate(slots, gone[x], x as u8) {
+    for (i, gone) in gone[1..joints - 1].iter().enumerate() {
+        if let Some(passage) = candidate(slots, *gone, i as u8 + 1) {
             return Some(passage);
         }
     }
     None
 }
 
-/// Whether every inner joint is gone.
-fn all_gone(gone: &[bool; 32], joints: usize) -> bool
-    requires two { 2 ≤ joints }
-    requires most { joints ≤ 32 }
-    ensures { AllGone joints gone.now result }
+/// Whether all these joints are gone.
+fn all_gone(gone: &[bool]) -> bool
+    ensures { result ≡ list_all (λ gone. gone) gone.now }
 {
-    for y in 1..joints - 1 {
-        if !gone[y] {
-            return false;
-        }
-    }
-    true
+    gone.iter().all(|gone| *gone)
 }
 
 /// Puts one edge in the place of a joint and of all edges at it.
@@ -92,7 +76,7 @@ pub(crate) fn reduce(table: &mut Table, slots: &mut Slots, joints: usize) -> boo
         eliminate(table, slots, next);
         gone[next.joint as usize] = true;
     }
-    if !all_gone(&gone, joints) {
+    if !all_gone(&gone[1..joints - 1]) {
         return false;
     }
     all_straight(slots, (joints - 1) as u8)

@@ -1,5 +1,6 @@
-use Rattle.std.proofs.Common.{length, refl, ap, arith}
+use Rattle.std.proofs.Common.{length, sym, refl, ap, subst, arith}
 use Rattle.wiring.specs.Circuit.{circuit}
+use Rattle.elimination.specs.Answer.{Answer}
 use Rattle.elimination.proofs.Answering.{answer_found, answer_none, answer_refused, range_drawn}
 use Rattle.elimination.proofs.Edges.{live_parts}
 use Rattle.elimination.proofs.Placing.{placed-all, slice_is, slice_few, slice_loopless}
@@ -32,19 +33,20 @@ gather-requires c =
     let f = slice_few c.args.rung.now in
     record { stands = D.stands; room = omega arith }
 
-pub returns-in-None : goal.returns-in-None
-returns-in-None c =
+pub returns-in_err-group : goal.returns-in_err-group
+returns-in_err-group c =
     let r = c.args.rung.now in
-    answer_none (circuit r) r.two (range_drawn (circuit r) r.linked) _ _ c.reduce.new.slots c.reduce.new.table.nodes c.reduce.new.table.len c.gather.new.table.nodes c.gather.new.table.len
+    subst (λ a. Answer (circuit r) c.gather.new.table.nodes c.gather.new.table.len a) (sym c.from_residual.ensures)
+    (answer_none (circuit r) r.two (range_drawn (circuit r) r.linked) _ _ c.reduce.new.slots c.reduce.new.table.nodes c.reduce.new.table.len c.gather.new.table.nodes c.gather.new.table.len
     (placed-all (circuit r) _ c.place.new.slots c.place.new.table.nodes c.place.new.table.len (slice_is r) c.place.ensures)
-    c.if-not-reduce.ensures c.in-None.ensures
+    c.if-not-reduce.ensures c.in_err-group.ensures)
 
-pub returns-in-Some : goal.returns-in-Some
-returns-in-Some c =
+pub returns : goal.returns
+returns c =
     let r = c.args.rung.now in
     let e = ap length (slice_is r) in
     let m = c.place.ensures.len_is in
     let n = c.place.ensures.live-is in
-    answer_found (circuit r) r.two (range_drawn (circuit r) r.linked) _ _ c.reduce.new.slots c.reduce.new.table.nodes c.reduce.new.table.len c.gather.new.table.nodes c.gather.new.table.len c.in-Some.group
+    answer_found (circuit r) r.two (range_drawn (circuit r) r.linked) _ _ c.reduce.new.slots c.reduce.new.table.nodes c.reduce.new.table.len c.gather.new.table.nodes c.gather.new.table.len c.in_ok-group.group
     (placed-all (circuit r) _ c.place.new.slots c.place.new.table.nodes c.place.new.table.len (slice_is r) c.place.ensures)
-    (omega arith) c.if-not-reduce.ensures c.in-Some.ensures
+    (omega arith) c.if-not-reduce.ensures c.in_ok-group.ensures

@@ -1,7 +1,10 @@
-use Rattle.std.proofs.Common.{map, drop}
-use Rattle.elimination.specs.Groups.{Gathered}
-use Rattle.elimination.specs.Slots.{touch}
+use Rattle.std.proofs.Common.{◌≡◌}
+use Rattle.std.specs.Iterator.Adapters.{rev_source, enumerate_source, enumerate_count}
+use Rattle.std.specs.Slice.Iter.{iter_rest}
+use Rattle.elimination.proofs.Gathering.{Gathering}
 use Rattle.elimination.proofs.groups.gather.Given as goal
 
 abbrev pub invariant-loop-i : goal.invariant-loop-i
-invariant-loop-i l = Gathered l.i (map (touch l.side l.joint) (drop l.i l.slots)) l.initial.table.nodes l.initial.table.len l.table.nodes l.table.len l.group
+invariant-loop-i l =
+    (enumerate_count (rev_source l.i-iterator) ≡ 0)
+    × Gathering (iter_rest (enumerate_source (rev_source l.i-iterator))) l.side l.joint l.slots l.initial.table.nodes l.initial.table.len l.table.nodes l.table.len l.group

@@ -1,5 +1,5 @@
 use Rattle.std.proofs.Common.{◌<◌, length, arith}
-use Rattle.elimination.proofs.Picking.{picked_may, picked_left}
+use Rattle.elimination.proofs.Picking.{all_gone_by, picked_may, picked_left}
 use Rattle.elimination.proofs.Reducing.{work_start, work_more, fewer, turn_refused, gone_refused, outcome}
 use Rattle.elimination.proofs.reduction.reduce.Goals as goal
 
@@ -29,8 +29,8 @@ loop-next-preserved c =
 
 pub returns-then-not-all_gone : goal.returns-then-not-all_gone
 returns-then-not-all_gone c =
-    gone_refused c.args.joints _ _ c.loop-next.slots c.loop-next.table.nodes c.loop-next.table.len c.loop-next.gone c.loop-next.invariant c.in_default.ensures c.if-not-all_gone.ensures
+    gone_refused c.args.joints _ _ c.loop-next.slots c.loop-next.table.nodes c.loop-next.table.len c.loop-next.gone c.loop-next.invariant c.in_default.ensures (all_gone_by c.args.joints c.loop-next.gone _ (omega (arith, c.loop-next.invariant.long)) c.if-not-all_gone.ensures)
 
 pub returns : goal.returns
 returns c =
-    outcome c.args.joints _ _ c.loop-next.slots c.loop-next.table.nodes c.loop-next.table.len c.loop-next.gone c.loop-next.invariant c.in_default.ensures c.if-not-all_gone.ensures c.all_straight.result c.all_straight.ensures
+    outcome c.args.joints _ _ c.loop-next.slots c.loop-next.table.nodes c.loop-next.table.len c.loop-next.gone c.loop-next.invariant c.in_default.ensures (all_gone_by c.args.joints c.loop-next.gone _ (omega (arith, c.loop-next.invariant.long)) c.if-not-all_gone.ensures) c.all_straight.result c.all_straight.ensures
