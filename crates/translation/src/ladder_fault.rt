@@ -2,24 +2,11 @@
 ghost use Rattle.std.specs.Prelude.{◌≡◌};
 ghost use Rattle.translation.specs.declared.ladder_fault.LadderFault.TheVariants.{Card, Rung};
 ghost use Rattle.instructions.specs.Reports.{refusal_line, Written};
-ghost use Rattle.translation.specs.Faults.{rung_number, ladder_number, ladder_rung, ladder_bit, in_rung, at_rung};
+ghost use Rattle.translation.specs.Faults.{ladder_number, ladder_rung, ladder_bit, in_rung, at_rung};
 
 use super::rung_fault::RungFault;
 use cards::CardFault;
 use instructions::{ShortBuffer, write_refusal};
-
-impl RungFault {
-    /// The number under which the rung is refused.
-    pub fn number(self) -> u8
-        ensures { result ≡ rung_number self }
-    {
-        match self {
-            RungFault::NotSeriesParallel => 9,
-            RungFault::TooDeep => 10,
-            RungFault::TooLong => 11,
-        }
-    }
-}
 
 /// The card reader's fault, and the rung in which it was met.
 #[derive(Clone, Copy)]
