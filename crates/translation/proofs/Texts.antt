@@ -1,16 +1,18 @@
 -- The words of a part, made of the words of its own parts.
 use Rattle.std.proofs.Common.{◌≡◌, ℕ, ◌≤◌, List, [], ◌∷◌, ◌++◌, length, sym, refl, ap, ◌∙◌, subst, arith}
 use Rattle.std.proofs.lemmas.List.{append_assoc, append-nil, length-append, length-map, map-append}
+use Rattle.instructions.specs.declared.instruction.Instruction.{Instruction}
 use Rattle.instructions.specs.declared.instruction.Instruction.TheVariants.{AndOpen, OrOpen, Close}
 use Rattle.instructions.specs.Words.{word_of}
+use Rattle.wiring.specs.declared.rung.Contact.{Contact}
 use Rattle.wiring.specs.Circuit.{Circuit, link_at}
 use Rattle.wiring.specs.Text.{Word, and_open, or_open, close, in_series, in_parallel, link_text, text}
 use Rattle.wiring.specs.Wiring.{Wiring, link, series, parallel, leaves}
 use Rattle.wiring.proofs.Lengths.{text_short}
 use Rattle.translation.specs.declared.emitters.Place.{Place}
 use Rattle.translation.specs.declared.emitters.Place.TheVariants.{First, Later}
-use Rattle.translation.specs.Spelling.{spelled, spell, coiling, coil_words, rung_words}
-use Rattle.translation.specs.Drafts.{series_words, branch_words, series_contact, branch_contact, bracketed, Room, Adds}
+use Rattle.translation.specs.Spelling.{anding, oring, spelled, spell, coiling, coil_words, rung_words}
+use Rattle.translation.specs.Drafts.{series_words, branch_words, series_contact, branch_contact, bracketed, ReadsAt, Room, Adds}
 
 -- one row of words after another
 pub then_adds : {before us mid vs after : List ℕ} → Adds before us mid → Adds mid vs after → Adds before (us ++ vs) after
@@ -29,6 +31,15 @@ room-first us vs p = let h = p.fits in record { fits = omega (arith, length-appe
 
 pub room_next : {before mid : List ℕ} (us vs : List ℕ) → Room before (us ++ vs) → Adds before us mid → Room mid vs
 room_next {before} us vs p q = let h = p.fits in let e = ap length q.is in record { fits = omega (arith, length-append us vs, length-append before us) }
+
+-- how the emitters read a contact
+pub series_reads : (later : Contact → Instruction → Type 0) (x : Contact) (i : Instruction) (place : Place) → (later x i → i ≡ anding x) → ReadsAt place later x i → i ≡ series_contact place x
+series_reads later x i First p e = e
+series_reads later x i Later p e = p e
+
+pub branch_reads : (later : Contact → Instruction → Type 0) (x : Contact) (i : Instruction) (place : Place) → (later x i → i ≡ oring x) → ReadsAt place later x i → i ≡ branch_contact place x
+branch_reads later x i First p e = e
+branch_reads later x i Later p e = p e
 
 module _ (c : Circuit) where
   pub spell-append : (us vs : List Word) → spell c (us ++ vs) ≡ spell c us ++ spell c vs
