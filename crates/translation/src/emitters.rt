@@ -38,7 +38,7 @@ pub(crate) struct Emitter<'a> {
     pub(crate) table: &'a Table,
 }
 
-impl<'a> Emitter<'a> {
+impl Emitter<'_> {
     /// The contact of a link by its number; there is none past the last, and that reads as a wire.
     fn contact(&self, link: u8) -> Contact
         ensures { result ≡ (link_at (circuit self.now.rung.now) link).contact }

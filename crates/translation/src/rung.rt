@@ -45,6 +45,7 @@ fn draft_of(rung: &Rung, table: &Table, root: u8) -> Draft
     draft
 }
 
+/// Writes the coils in their order.
 fn emit_coils(coils: &[Coil], draft: &mut Draft)
     requires { Room (drafted draft.old) (coil_words coils.now) }
     ensures { Adds (drafted draft.old) (coil_words coils.now) (drafted draft.new) }
