@@ -1,5 +1,5 @@
 -- The verdict on a card, one rung at a time.
-use Rattle.std.proofs.Common.{◌≡◌, ℕ, ◌+◌, Bool, false, List, [], Some, None, Ok, Err, Option, Result, sym, refl, ap, ◌∙◌, subst, arith}
+use Rattle.std.proofs.Common.{MatchResult, IsErrAnd, ◌≡◌, ℕ, ◌+◌, List, [], Some, None, Ok, Err, Option, Result, sym, refl, ap, ◌∙◌, subst, arith}
 use Rattle.instructions.specs.declared.store.Store.{Store}
 use Rattle.instructions.specs.Stores.{stored}
 use Rattle.wiring.specs.declared.rung.Rung.{Rung}
@@ -14,15 +14,35 @@ use Rattle.translation.specs.declared.ladder_fault.InRung.{InRung}
 use Rattle.translation.specs.declared.ladder_fault.AtRung.{AtRung}
 use Rattle.translation.specs.declared.ladder_fault.LadderFault.{LadderFault}
 use Rattle.translation.specs.declared.ladder_fault.LadderFault.TheVariants as ladder
-use Rattle.translation.specs.Faults.{in_rung, at_rung}
 use Rattle.translation.specs.Translation.{Translated}
-use Rattle.translation.specs.Judgement.{Verdict, unfit, Judged, ended, trailed, misread, crossed, deep, long, taken, CardJudged, headless, headed, JudgedFrom, Stepped, Told}
+use Rattle.translation.specs.Judgement.{Verdict, unfit, Judged, ended, trailed, misread, crossed, deep, long, taken, CardJudged, headless, headed, JudgedFrom, Told}
 
 pub no_ok : {A E : Type 0} {x : A} {e : E} → ◌≡◌ {A = Result A E} (Ok x) (Err e) → ⊥
 no_ok p = let z : ◌≡◌ {A = ℕ} 0 1 = cc in omega arith
 
 pub no_err : {A E : Type 0} {x : A} {e : E} → ◌≡◌ {A = Result A E} (Err e) (Ok x) → ⊥
 no_err p = let z : ◌≡◌ {A = ℕ} 0 1 = cc in omega arith
+
+-- the card reader's answer, with the rung in which it was asked
+abbrev pub in_rung : {A : Type 0} → Result A CardFault → ℕ → Result A InRung
+in_rung (Ok x) rung = Ok x
+in_rung (Err e) rung = Err (record { fault = e; rung = rung })
+
+-- the answer on a rung, with its number and the bit at which it starts
+abbrev pub at_rung : {A : Type 0} → Result A RungFault → ℕ → ℕ → Result A AtRung
+at_rung (Ok x) rung bit = Ok x
+at_rung (Err e) rung bit = Err (record { fault = e; rung = rung; bit = bit })
+
+-- what `map_err` leaves, where the closure adds the rung, or the rung and its place
+pub in_rung_is : {A : Type 0} (r : Result A CardFault) (k : ℕ) (q : Result A InRung) (P : CardFault → InRung → Type 0) → ((e : CardFault) (x : InRung) → P e x → x ≡ record { fault = e; rung = k }) → MatchResult r (λ y. q ≡ Ok y) (λ e. IsErrAnd q (P e)) → in_rung r k ≡ q
+in_rung_is (Ok y) k q P f m = sym m
+in_rung_is (Err e) k (Ok y) P f m = absurd m
+in_rung_is (Err e) k (Err x) P f m = ap Err (sym (f e x m))
+
+pub at_rung_is : {A : Type 0} (r : Result A RungFault) (k bit : ℕ) (q : Result A AtRung) (P : RungFault → AtRung → Type 0) → ((e : RungFault) (x : AtRung) → P e x → x ≡ record { fault = e; rung = k; bit = bit }) → MatchResult r (λ y. q ≡ Ok y) (λ e. IsErrAnd q (P e)) → at_rung r k bit ≡ q
+at_rung_is (Ok y) k bit q P f m = sym m
+at_rung_is (Err e) k bit (Ok y) P f m = absurd m
+at_rung_is (Err e) k bit (Err x) P f m = ap Err (sym (f e x m))
 
 -- the same verdict under other names
 judged-at : {bytes : List ℕ} {r r' k k' a a' : ℕ} {ws ws' : List ℕ} {v : Verdict} → r ≡ r' → k ≡ k' → a ≡ a' → ws ≡ ws' → Judged bytes r k a ws v → Judged bytes r' k' a' ws' v
@@ -81,9 +101,6 @@ taken_step bytes p p' s s' rung (Ok x) k bit u R T i v j =
     (judged-at n m R.at T.4 j)
 
 -- the exit of a `?`
-pub stepped_err : {bytes : List ℕ} (p : Progress) (s : Store) (p' : Progress) (s' : Store) {r : Result Bool LadderFault} {y z : LadderFault} → r ≡ Err y → y ≡ z → JudgedFrom bytes p s (Err z) → Stepped bytes p s r p' s'
-stepped_err {bytes} p s p' s' {r} {y} {z} e f j = subst (λ (x : Result Bool LadderFault). Stepped bytes p s x p' s') (sym (e ∙ ap Err f)) j
-
 pub told_err : {U : Type 0} {bytes : List ℕ} (s : Store) {r : Result U LadderFault} {y z : LadderFault} → r ≡ Err y → y ≡ z → CardJudged bytes (Err z) → Told bytes r s
 told_err {U} {bytes} s {r} {y} {z} e f j = subst (λ (x : Result U LadderFault). Told bytes x s) (sym (e ∙ ap Err f)) j
 
@@ -122,7 +139,10 @@ end_ok {bytes} p s (Ok x) k u l R i =
     judged-at refl n refl refl (ended p.at (stored s) (sym R))
 
 -- no rung is left
-pub stopped : (bytes : List ℕ) (p p' : Progress) (s s' : Store) (r : Result Bool LadderFault) (b : Bool) → ((v : Verdict) → JudgedFrom bytes p s v → CardJudged bytes v) → Stepped bytes p s r p' s' → r ≡ Ok b → b ≡ false → (p'.left ≡ 0) × ((v : Verdict) → JudgedFrom bytes p' s' v → CardJudged bytes v)
-stopped bytes p p' s s' r b inv S e f =
-    let h = subst (λ (x : Result Bool LadderFault). Stepped bytes p s x p' s') (e ∙ ap Ok f) S in
-    (ap (λ (x : Progress). x.left) h.1 ∙ h.0, λ v j. inv v (subst (λ (x : Store). JudgedFrom bytes p x v) h.2 (subst (λ (x : Progress). JudgedFrom bytes x s' v) h.1 j)))
+pub none_left : (bytes : List ℕ) (p p' : Progress) (r : Result (Option Rung) CardFault) (k : ℕ) (o : Option Rung) → RungRead bytes p r p' → in_rung r k ≡ Ok o → o ≡ None → (p.left ≡ 0) × (p' ≡ p)
+none_left bytes p p' (Err d) k o R i n = absurd (no_err i)
+none_left bytes p p' (Ok None) k o R i n = R
+none_left bytes p p' (Ok (Some x)) k o R i n = let z : ◌≡◌ {A = ℕ} 0 1 = cc in absurd (omega arith)
+
+pub stopped : (bytes : List ℕ) (p p' : Progress) (s : Store) → ((v : Verdict) → JudgedFrom bytes p s v → CardJudged bytes v) → (p.left ≡ 0) × (p' ≡ p) → (p'.left ≡ 0) × ((v : Verdict) → JudgedFrom bytes p' s v → CardJudged bytes v)
+stopped bytes p p' s inv h = (ap (λ (x : Progress). x.left) h.1 ∙ h.0, λ v j. inv v (subst (λ (x : Progress). JudgedFrom bytes x s v) h.1 j))

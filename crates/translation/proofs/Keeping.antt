@@ -1,5 +1,5 @@
 -- The words of a card's rungs keep the rules of a program.
-use Rattle.std.proofs.Common.{◌≡◌, ℕ, zero, suc, ◌+◌, ◌-◌, ◌<◌, ◌≤◌, max, Bool, true, false, cond, ◌&&◌, eqb, ltb, ◌⊎◌, List, [], ◌∷◌, ◌++◌, length, get_or, Some, Ok, Err, Result, sym, refl, ap, ◌∙◌, subst, inl, inr, arith, lit≤}
+use Rattle.std.proofs.Common.{◌≡◌, ℕ, zero, suc, ◌+◌, ◌-◌, ◌<◌, ◌≤◌, max, Bool, true, false, cond, ◌&&◌, eqb, ltb, ◌⊎◌, List, [], ◌∷◌, ◌++◌, length, get_or, Some, Ok, Err, Result, IsOk, sym, refl, ap, ◌∙◌, subst, inl, inr, arith, lit≤}
 use Rattle.std.proofs.lemmas.Bool.Decides.{nat_tests, leb_tells}
 use Rattle.std.proofs.lemmas.List.{append_assoc, append-nil, length-append, length-map}
 use Rattle.points.specs.declared.point.Area.{Area}
@@ -17,6 +17,8 @@ use Rattle.programs.specs.declared.checker.State.{State}
 use Rattle.programs.specs.declared.checker.State.TheVariants.{Begun, Opened, Joining, Stored}
 use Rattle.programs.specs.declared.fault.RuleFault.{RuleFault}
 use Rattle.programs.specs.declared.fault.RuleFault.TheVariants.{Unfinished}
+use Rattle.programs.specs.declared.program.Program.{Program}
+use Rattle.programs.specs.Programs.{Taken}
 use Rattle.programs.specs.Rules.{Place, start, loads, joins, drives_area, when, next, starts_rung, counted, step_to, step, step_if, onward, led, ends, judged_at, judged, accepted, keeps}
 use Rattle.programs.proofs.Rules.{led-append}
 use Rattle.wiring.specs.declared.rung.Action.{Action}
@@ -405,3 +407,7 @@ never_refused bytes words ws e j s q =
     let f : keeps ws ≡ false = ap accepted q in
     let z : ◌≡◌ {A = ℕ} 0 1 = cc in
     omega arith
+
+pub always_taken : (bytes words ws : List ℕ) (r : Result Program RuleFault) → CardJudged bytes (Ok words) → ws ≡ words → Taken ws (judged ws) r → IsOk r
+always_taken bytes words ws (Ok p) j s t = refl
+always_taken bytes words ws (Err e) j s t = absurd (never_refused bytes words ws e j s t)

@@ -1,19 +1,21 @@
 -- For the contracts of the emitters: the words drafted so far, and the text of a part by its place.
-use Rattle.std.specs.Prelude.{◌≡◌, ℕ, ◌+◌, ◌≤◌, List, [], ◌∷◌, ◌++◌, length, take}
+use Rattle.std.specs.Prelude.{◌≡◌, ℕ, ◌+◌, ◌≤◌, List, [], ◌∷◌, ◌++◌, length}
 use Rattle.wiring.specs.declared.rung.Contact.{Contact}
-use Rattle.wiring.specs.Circuit.{Circuit}
+use Rattle.wiring.specs.Circuit.{Circuit, circuit}
 use Rattle.wiring.specs.Text.{Word, Text, link_text, text}
 use Rattle.wiring.specs.Wiring.{Wiring}
+use Rattle.elimination.specs.Trees.{tree_at}
 use Rattle.instructions.specs.declared.instruction.Instruction.{Instruction}
 use Rattle.instructions.specs.Words.{word_of}
 use Rattle.translation.specs.Spelling.{loading, anding, oring, spell}
 use Rattle.translation.specs.declared.draft.Draft.{Draft}
+use Rattle.translation.specs.declared.emitters.Emitter.{Emitter}
 use Rattle.translation.specs.declared.emitters.Place.{Place}
 use Rattle.translation.specs.declared.emitters.Place.TheVariants.{First, Later}
 
 -- the words drafted
 abbrev pub drafted : Draft → List ℕ
-drafted d = take d.len d.words
+drafted d = d.words.items
 
 -- the text of a part of a series
 abbrev pub series_text : Place → Text → List Word
@@ -32,6 +34,18 @@ series_words c place w = spell c (series_text place (text link_text w))
 -- the words of a part of a branch group
 abbrev pub branch_words : Circuit → Place → Wiring ℕ → List ℕ
 branch_words c place w = spell c (branches_text place (text link_text w))
+
+-- the words of the part at a position of an emitter's table, as a part of a series and as a part of a branch group
+abbrev pub series_at : Emitter → Place → ℕ → List ℕ
+series_at e place at = series_words (circuit e.rung.now) place (tree_at e.table.now.nodes at)
+
+abbrev pub branches_at : Emitter → Place → ℕ → List ℕ
+branches_at e place at = branch_words (circuit e.rung.now) place (tree_at e.table.now.nodes at)
+
+-- how a contact reads: first as a load, and later as the given relation says
+abbrev pub ReadsAt : Place → (Contact → Instruction → Type 0) → Contact → Instruction → Type 0
+ReadsAt First later x i = i ≡ loading x
+ReadsAt Later later x i = later x i
 
 -- how a contact reads in a series, and in a branch group
 abbrev pub series_contact : Place → Contact → Instruction

@@ -1,11 +1,8 @@
 -- The numbers, rungs and places of a ladder's faults.
-use Rattle.std.specs.Prelude.{ℕ, Ok, Err, Result}
-use Rattle.cards.specs.declared.fault.CardFault.{CardFault}
+use Rattle.std.specs.Prelude.{ℕ}
 use Rattle.cards.specs.Faults.{cause_number}
 use Rattle.translation.specs.declared.rung_fault.RungFault.{RungFault}
 use Rattle.translation.specs.declared.rung_fault.RungFault.TheVariants.{NotSeriesParallel, TooDeep, TooLong}
-use Rattle.translation.specs.declared.ladder_fault.InRung.{InRung}
-use Rattle.translation.specs.declared.ladder_fault.AtRung.{AtRung}
 use Rattle.translation.specs.declared.ladder_fault.LadderFault.{LadderFault}
 use Rattle.translation.specs.declared.ladder_fault.LadderFault.TheVariants.{Card, Rung}
 
@@ -28,13 +25,3 @@ ladder_rung (Rung met) = met.rung
 abbrev pub ladder_bit : LadderFault → ℕ
 ladder_bit (Card met) = met.fault.bit
 ladder_bit (Rung met) = met.bit
-
--- the card reader's answer, with the rung in which it was asked
-abbrev pub in_rung : {A : Type 0} → Result A CardFault → ℕ → Result A InRung
-in_rung (Ok x) rung = Ok x
-in_rung (Err e) rung = Err (record { fault = e; rung = rung })
-
--- the answer on a rung, with its number and the bit at which it starts
-abbrev pub at_rung : {A : Type 0} → Result A RungFault → ℕ → ℕ → Result A AtRung
-at_rung (Ok x) rung bit = Ok x
-at_rung (Err e) rung bit = Err (record { fault = e; rung = rung; bit = bit })

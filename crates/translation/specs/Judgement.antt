@@ -1,5 +1,5 @@
 -- What a card is judged to be, in bit order: the words of its rungs, or the one refusal.
-use Rattle.std.specs.Prelude.{◌≡◌, ℕ, ◌+◌, ◌<◌, ◌≤◌, Bool, true, false, List, [], ◌++◌, length, Ok, Err, Result}
+use Rattle.std.specs.Prelude.{◌≡◌, ℕ, ◌+◌, ◌<◌, ◌≤◌, List, [], ◌++◌, length, Ok, Err, Result}
 use Rattle.instructions.specs.declared.store.Store.{Store}
 use Rattle.instructions.specs.Stores.{stored}
 use Rattle.programs.specs.declared.program.Program.{Program}
@@ -53,12 +53,6 @@ pub data CardJudged (bytes : List ℕ) : Verdict → Type 0 where
 -- the verdict from where the reading stands
 abbrev pub JudgedFrom : List ℕ → Progress → Store → Verdict → Type 0
 JudgedFrom bytes p s v = Judged bytes p.rungs (progress_rung p) p.at (stored s) v
-
--- for the translation's own contracts: one rung more was taken, or none is left, or the card is refused
-abbrev pub Stepped : List ℕ → Progress → Store → Result Bool LadderFault → Progress → Store → Type 0
-Stepped bytes p s (Ok true) p' s' = (p'.left + 1 ≡ p.left) × ((v : Verdict) → JudgedFrom bytes p' s' v → JudgedFrom bytes p s v)
-Stepped bytes p s (Ok false) p' s' = (p.left ≡ 0) × (p' ≡ p) × (s' ≡ s)
-Stepped bytes p s (Err e) p' s' = JudgedFrom bytes p s (Err e)
 
 -- a card was translated: its words stand in the store; or it was refused
 abbrev pub Told : {U : Type 0} → List ℕ → Result U LadderFault → Store → Type 0

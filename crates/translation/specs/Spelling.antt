@@ -14,6 +14,12 @@ use Rattle.instructions.specs.declared.instruction.Instruction.{Instruction}
 use Rattle.instructions.specs.declared.instruction.Instruction.TheVariants.{Load, LoadNot, And, AndNot, Or, OrNot, AndOpen, OrOpen, Close, Store, StoreNot, Set, Reset}
 use Rattle.instructions.specs.Words.{word_of}
 
+-- for the contract of the spelling: what a contact becomes by an operation that takes a signal as it is, and by one that takes its inverse
+abbrev pub Spells : (Operand → Instruction → Type 0) → (Operand → Instruction → Type 0) → Contact → Instruction → Type 0
+Spells plain inverted Wire i = plain True i
+Spells plain inverted (Open p) i = plain (At p) i
+Spells plain inverted (Closed p) i = inverted (At p) i
+
 -- a first contact: `LD`, or `LDN` if it is closed at rest; a wire has the operand `TRUE`
 abbrev pub loading : Contact → Instruction
 loading Wire = Load True

@@ -2,11 +2,11 @@
 ghost use Rattle.std.specs.Prelude.{◌≡◌, [], MatchResult};
 ghost use Rattle.instructions.specs.Stores.{stored};
 ghost use Rattle.programs.specs.Counts.{counts as counts_of};
-ghost use Rattle.translation.specs.Judgement.{Stepped, Told, CardTaken};
+ghost use Rattle.translation.specs.Judgement.{Told, CardTaken};
 
-use super::ladder_fault::{LadderFault, at_rung, in_rung};
+use super::ladder_fault::{AtRung, InRung, LadderFault};
 use super::rung::translate;
-use cards::{Progress, read_end, read_head, read_rung};
+use cards::{read_end, read_head, read_rung};
 use instructions::Store;
 use programs::{Program, counts};
 
@@ -20,6 +20,7 @@ pub fn translate_card(
     ensures counted { MatchResult result (λ numbers. numbers ≡ counts_of (stored staged.new)) (λ _. stored staged.new ≡ []) }
 {
     staged.clear();
+    // Kept as a match: each arm has work of its own on the store, and `map` with `inspect_err` would lend it to two closures.
     match translate_rungs(card, staged) {
         Ok(()) => Ok(counts(staged.words())),
         Err(fault) => {
@@ -33,9 +34,18 @@ fn translate_rungs(card: &[u8], staged: &mut Store) -> Result<(), LadderFault>
     requires { stored staged.old ≡ [] }
     ensures { Told card.now result staged.new }
 {
-    let mut progress = in_rung(read_head(card), 0)?;
-    while translate_next(card, &mut progress, staged)? {}
-    in_rung(read_end(card, &progress), progress.rung())?;
+    let mut progress = read_head(card).map_err(|fault| InRung { fault, rung: 0 })?;
+    loop {
+        let rung = progress.rung();
+        let bit = progress.bit();
+        let read = read_rung(card, &mut progress).map_err(|fault| InRung { fault, rung })?;
+        let Some(drawn) = read else {
+            break;
+        };
+        translate(&drawn, staged).map_err(|fault| AtRung { fault, rung, bit })?;
+    }
+    let rung = progress.rung();
+    read_end(card, &progress).map_err(|fault| InRung { fault, rung })?;
     Ok(())
 }
 
@@ -49,28 +59,6 @@ pub fn take_card(
     ensures { CardTaken card.now program.old result program.new }
 {
     let numbers = translate_card(card, staged)?;
-    let Ok(taken) = Program::of(staged.words()) else {
-        unreachable()
-    };
-    *program = taken;
+    *program = Program::of(staged.words()).unwrap();
     Ok(numbers)
-}
-
-/// Translates the next rung; false if none is left.
-fn translate_next(
-    card: &[u8],
-    progress: &mut Progress,
-    staged: &mut Store,
-) -> Result<bool, LadderFault>
-    ensures { Stepped card.now progress.old staged.old result progress.new staged.new }
-{
-    let number = progress.rung();
-    let bit = progress.bit();
-    match in_rung(read_rung(card, progress), number)? {
-        None => Ok(false),
-        Some(rung) => {
-            at_rung(translate(&rung, staged), number, bit)?;
-            Ok(true)
-        }
-    }
 }

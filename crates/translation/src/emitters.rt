@@ -1,9 +1,7 @@
 //! The two emitters: the text of a series and the text of a branch group, each written through the other.
-ghost use Rattle.std.specs.Prelude.{◌≡◌, [], ◌∷◌};
+ghost use Rattle.std.specs.Prelude.{◌≡◌};
 ghost use Rattle.wiring.specs.Circuit.{circuit, link_at};
-ghost use Rattle.elimination.specs.Trees.{tree_at};
-ghost use Rattle.instructions.specs.Words.{word_of};
-ghost use Rattle.translation.specs.Drafts.{drafted, Room, Adds, bracketed, series_contact, branch_contact, series_words, branch_words};
+ghost use Rattle.translation.specs.Drafts.{drafted, Room, Adds, bracketed, ReadsAt, series_at, branches_at};
 
 use super::draft::Draft;
 use super::spelling::{and, load, or};
@@ -19,14 +17,6 @@ pub(crate) enum Place {
 }
 
 impl Draft {
-    pub(crate) fn push(&mut self, instruction: Instruction)
-        requires { Room (drafted self.old) (word_of instruction ∷ []) }
-        ensures { Adds (drafted self.old) (word_of instruction ∷ []) (drafted self.new) }
-    {
-        self.words[self.len] = instruction.word();
-        self.len += 1;
-    }
-
     /// Writes a bracket, which only a later part has.
     fn bracket(&mut self, place: Place, instruction: Instruction)
         requires { Room (drafted self.old) (bracketed place instruction) }
@@ -39,75 +29,81 @@ impl Draft {
     }
 }
 
-/// The contact of a link by its number; there is none past the last, and that reads as a wire.
-fn contact_at(rung: &Rung, link: u8) -> Contact
-    ensures { result ≡ (link_at (circuit rung.now) link).contact }
-{
-    if link < rung.link_count {
-        rung.links[link as usize].contact
-    } else {
-        Contact::Wire
-    }
+/// A rung, and the table that holds its wiring.
+///
+/// The draft is no field: then every contract would have to say that rung and table stay.
+#[derive(Clone, Copy)]
+pub(crate) struct Emitter<'a> {
+    pub(crate) rung: &'a Rung,
+    pub(crate) table: &'a Table,
 }
 
-/// How a contact reads in a series.
-fn in_series(place: Place, contact: Contact) -> Instruction
-    ensures { result ≡ series_contact place contact }
-{
-    match place {
-        Place::First => load(contact),
-        Place::Later => and(contact),
+impl Emitter<'_> {
+    /// The contact of a link by its number; there is none past the last, and that reads as a wire.
+    fn contact(&self, link: u8) -> Contact
+        ensures { result ≡ (link_at (circuit self.now.rung.now) link).contact }
+    {
+        self.rung.links[..self.rung.link_count as usize]
+            .get(link as usize)
+            .map_or(Contact::Wire, |link| link.contact)
     }
-}
 
-/// How a contact reads in a branch group.
-fn in_branches(place: Place, contact: Contact) -> Instruction
-    ensures { result ≡ branch_contact place contact }
-{
-    match place {
-        Place::First => load(contact),
-        Place::Later => or(contact),
-    }
-}
-
-/// Writes the text of a part of a series: a branch group that is a later part stands in brackets.
-#[cycle(emit_branches_emit_series)]
-pub(crate) fn emit_series(table: &Table, at: u8, place: Place, rung: &Rung, draft: &mut Draft)
-    requires { Room (drafted draft.old) (series_words (circuit rung.now) place (tree_at table.now.nodes at)) }
-    ensures { Adds (drafted draft.old) (series_words (circuit rung.now) place (tree_at table.now.nodes at)) (drafted draft.new) }
-{
-    match table.node(at) {
-        Node::Link(link) => draft.push(in_series(place, contact_at(rung, link))),
-        Node::Series(first, second) => {
-            emit_series(table, first, place, rung, draft);
-            emit_series(table, second, Place::Later, rung, draft);
-        }
-        Node::Parallel(first, second) => {
-            draft.bracket(place, Instruction::AndOpen);
-            emit_branches(table, first, Place::First, rung, draft);
-            emit_branches(table, second, Place::Later, rung, draft);
-            draft.bracket(place, Instruction::Close);
+    /// How a link reads: first as a load, and later as its group takes it.
+    fn reading<F: FnOnce(Contact) -> Instruction>(
+        &self,
+        link: u8,
+        place: Place,
+        later: F,
+    ) -> Instruction
+        requires { F.IsAlwaysCallable later }
+        ensures { ReadsAt place (F.post later) (link_at (circuit self.now.rung.now) link).contact result }
+    {
+        let contact = self.contact(link);
+        match place {
+            Place::First => load(contact),
+            Place::Later => later(contact),
         }
     }
-}
 
-/// Writes the text of a part of a branch group: a series that is a later part stands in brackets.
-#[cycle(emit_branches_emit_series)]
-fn emit_branches(table: &Table, at: u8, place: Place, rung: &Rung, draft: &mut Draft)
-    requires { Room (drafted draft.old) (branch_words (circuit rung.now) place (tree_at table.now.nodes at)) }
-    ensures { Adds (drafted draft.old) (branch_words (circuit rung.now) place (tree_at table.now.nodes at)) (drafted draft.new) }
-{
-    match table.node(at) {
-        Node::Link(link) => draft.push(in_branches(place, contact_at(rung, link))),
-        Node::Parallel(first, second) => {
-            emit_branches(table, first, place, rung, draft);
-            emit_branches(table, second, Place::Later, rung, draft);
+    /// Writes the text of a part of a series: a branch group that is a later part stands in brackets.
+    #[cycle(series_and_branches)]
+    pub(crate) fn series(&self, at: u8, place: Place, draft: &mut Draft)
+        requires { Room (drafted draft.old) (series_at self.now place at) }
+        ensures { Adds (drafted draft.old) (series_at self.now place at) (drafted draft.new) }
+    {
+        match self.table.node(at) {
+            Node::Link(link) => draft.push(self.reading(link, place, and)),
+            Node::Series(first, second) => {
+                self.series(first, place, draft);
+                self.series(second, Place::Later, draft);
+            }
+            Node::Parallel(first, second) => {
+                draft.bracket(place, Instruction::AndOpen);
+                self.branches(first, Place::First, draft);
+                self.branches(second, Place::Later, draft);
+                draft.bracket(place, Instruction::Close);
+            }
         }
-        Node::Series(first, second) => {
-            draft.bracket(place, Instruction::OrOpen);
-            emit_series(table, first, Place::First, rung, draft);
-            emit_series(table, second, Place::Later, rung, draft);
-            draft.bracket(place, Instruction::Close);
+    }
+
+    /// Writes the text of a part of a branch group: a series that is a later part stands in brackets.
+    #[cycle(series_and_branches)]
+    fn branches(&self, at: u8, place: Place, draft: &mut Draft)
+        requires { Room (drafted draft.old) (branches_at self.now place at) }
+        ensures { Adds (drafted draft.old) (branches_at self.now place at) (drafted draft.new) }
+    {
+        match self.table.node(at) {
+            Node::Link(link) => draft.push(self.reading(link, place, or)),
+            Node::Parallel(first, second) => {
+                self.branches(first, place, draft);
+                self.branches(second, Place::Later, draft);
+            }
+            Node::Series(first, second) => {
+                draft.bracket(place, Instruction::OrOpen);
+                self.series(first, Place::First, draft);
+                self.series(second, Place::Later, draft);
+                draft.bracket(place, Instruction::Close);
+            }
         }
     }
 }

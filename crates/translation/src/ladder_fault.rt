@@ -2,24 +2,11 @@
 ghost use Rattle.std.specs.Prelude.{◌≡◌};
 ghost use Rattle.translation.specs.declared.ladder_fault.LadderFault.TheVariants.{Card, Rung};
 ghost use Rattle.instructions.specs.Reports.{refusal_line, Written};
-ghost use Rattle.translation.specs.Faults.{rung_number, ladder_number, ladder_rung, ladder_bit, in_rung, at_rung};
+ghost use Rattle.translation.specs.Faults.{ladder_number, ladder_rung, ladder_bit};
 
 use super::rung_fault::RungFault;
 use cards::CardFault;
 use instructions::{ShortBuffer, write_refusal};
-
-impl RungFault {
-    /// The number under which the rung is refused.
-    pub fn number(self) -> u8
-        ensures { result ≡ rung_number self }
-    {
-        match self {
-            RungFault::NotSeriesParallel => 9,
-            RungFault::TooDeep => 10,
-            RungFault::TooLong => 11,
-        }
-    }
-}
 
 /// The card reader's fault, and the rung in which it was met.
 #[derive(Clone, Copy)]
@@ -97,25 +84,5 @@ impl From<AtRung> for LadderFault {
 
     fn from(met: AtRung) -> LadderFault {
         LadderFault::Rung(met)
-    }
-}
-
-/// Adds the rung to what the card reader answers.
-pub(crate) fn in_rung<T>(answer: Result<T, CardFault>, rung: u8) -> Result<T, InRung>
-    ensures { result ≡ in_rung answer rung }
-{
-    match answer {
-        Ok(value) => Ok(value),
-        Err(fault) => Err(InRung { fault, rung }),
-    }
-}
-
-/// Adds the rung and its place to what the translation answers.
-pub(crate) fn at_rung<T>(answer: Result<T, RungFault>, rung: u8, bit: u32) -> Result<T, AtRung>
-    ensures { result ≡ at_rung answer rung bit }
-{
-    match answer {
-        Ok(value) => Ok(value),
-        Err(fault) => Err(AtRung { fault, rung, bit }),
     }
 }

@@ -8,11 +8,12 @@ ghost use Rattle.translation.specs.Drafts.{drafted, Room, Adds};
 ghost use Rattle.translation.specs.Translation.{Translated};
 
 use super::draft::Draft;
-use super::emitters::{Place, emit_series};
+use super::emitters::{Emitter, Place};
 use super::rung_fault::RungFault;
 use super::spelling::coil;
+use arrayvec::ArrayVec;
 use elimination::{Table, decompose};
-use instructions::{Full, Store, depth};
+use instructions::{Store, depth};
 use wiring::{Coil, Rung};
 
 /// Adds the words of a rung to a store; a refusal leaves the store as it was.
@@ -20,18 +21,14 @@ pub fn translate(rung: &Rung, store: &mut Store) -> Result<(), RungFault>
     ensures { Translated (circuit rung.now) store.old result store.new }
 {
     let mut table = Table::new();
-    let Some(root) = decompose(rung, &mut table) else {
-        return Err(RungFault::NotSeriesParallel);
-    };
+    let root = decompose(rung, &mut table).ok_or(RungFault::NotSeriesParallel)?;
     let draft = draft_of(rung, &table, root);
-    let words = &draft.words[0..draft.len];
-    if depth(words) > 15 {
+    if depth(&draft.words) > 15 {
         return Err(RungFault::TooDeep);
     }
-    match store.append(words) {
-        Ok(()) => Ok(()),
-        Err(Full) => Err(RungFault::TooLong),
-    }
+    store
+        .append(&draft.words)
+        .map_err(|_full| RungFault::TooLong)
 }
 
 /// The words of a rung: the text of its wiring, and then its coils.
@@ -40,19 +37,20 @@ fn draft_of(rung: &Rung, table: &Table, root: u8) -> Draft
     ensures { drafted result ≡ rung_words (circuit rung.now) (tree_at table.now.nodes root) }
 {
     let mut draft = Draft {
-        words: [0; 200],
-        len: 0,
+        words: ArrayVec::new(),
     };
-    emit_series(table, root, Place::First, rung, &mut draft);
-    emit_coils(&rung.coils[0..rung.coil_count as usize], &mut draft);
+    let emitter = Emitter { rung, table };
+    emitter.series(root, Place::First, &mut draft);
+    emit_coils(&rung.coils[..rung.coil_count as usize], &mut draft);
     draft
 }
 
+/// Writes the coils in their order.
 fn emit_coils(coils: &[Coil], draft: &mut Draft)
     requires { Room (drafted draft.old) (coil_words coils.now) }
     ensures { Adds (drafted draft.old) (coil_words coils.now) (drafted draft.new) }
 {
-    for i in 0..coils.len() {
-        draft.push(coil(coils[i]));
+    for each in coils {
+        draft.push(coil(*each));
     }
 }

@@ -1,5 +1,6 @@
-use Rattle.std.proofs.Common.{arith}
+use Rattle.std.proofs.Common.{◌≡◌, ℕ, Some, Option, subst, arith}
 use Rattle.std.proofs.lemmas.List.{length-take}
+use Rattle.elimination.specs.Answer.{Answer}
 use Rattle.elimination.specs.Trees.{tree_at}
 use Rattle.wiring.specs.Circuit.{circuit}
 use Rattle.translation.proofs.Texts.{room_for}
@@ -10,4 +11,7 @@ draft_of-draft-requires c =
     let r = c.args.rung.now in
     let l = length-take r.link_count r.links in
     let k = length-take r.coil_count r.coils in
-    room_for (circuit r) (tree_at c.decompose.new.table.nodes c.in-Some.root) c.in-Some.ensures.leaf_count (omega arith) (omega arith)
+    let d = c.decompose in
+    let found : d.result ≡ Some c.in_ok-root.root = cc (c.ok_or.ensures.ok_part, c.in_ok-root.was) in
+    let a : Answer (circuit r) d.new.table.nodes d.new.table.len (Some c.in_ok-root.root) = subst (λ (o : Option ℕ). Answer (circuit r) d.new.table.nodes d.new.table.len o) found d.ensures in
+    room_for (circuit r) (tree_at d.new.table.nodes c.in_ok-root.root) a.leaf_count (omega arith) (omega arith)
