@@ -17,7 +17,7 @@ impl Operand {
     {
         match self {
             Operand::True => 0,
-            Operand::At(point) => point.area.code() * 1024 + point.number as u16,
+            Operand::At(point) => u16::from(point.area) * 1024 + point.number as u16,
         }
     }
 
