@@ -49,10 +49,7 @@ fn flag_in(fields: &mut Fields<'_>) -> Result<bool, Cause> {
 }
 
 fn signal_in<S: Notation>(fields: &mut Fields<'_>) -> Result<S, Cause> {
-    match S::signal_in(fields.field()?) {
-        Some(signal) => Ok(signal),
-        None => Err(Cause::NotACommand),
-    }
+    S::signal_in(fields.field()?).ok_or(Cause::NotACommand)
 }
 
 /// The command that arranges or asks a bank, if it is one.

@@ -20,25 +20,17 @@ impl<'a> Fields<'a> {
 
     /// The next field, if there is one.
     pub fn more(&mut self) -> Option<&'a str> {
-        let text = self.rest?;
-        match text.split_once(' ') {
-            Some((field, rest)) => {
-                self.rest = Some(rest);
-                Some(field)
-            }
-            None => {
-                self.rest = None;
-                Some(text)
-            }
-        }
+        let text = self.rest.take()?;
+        let Some((field, rest)) = text.split_once(' ') else {
+            return Some(text);
+        };
+        self.rest = Some(rest);
+        Some(field)
     }
 
     /// The next field, which has to be there.
     pub fn field(&mut self) -> Result<&'a str, Cause> {
-        match self.more() {
-            Some(field) => Ok(field),
-            None => Err(Cause::NotACommand),
-        }
+        self.more().ok_or(Cause::NotACommand)
     }
 
     /// The next field as a number.
@@ -61,29 +53,27 @@ pub fn number_in(field: &str) -> Result<usize, Cause> {
     if field.starts_with('+') {
         return Err(Cause::NotACommand);
     }
-    match field.parse::<usize>() {
-        Ok(number) if number <= GREATEST => Ok(number),
-        _ => Err(Cause::NotACommand),
-    }
+    field
+        .parse::<usize>()
+        .ok()
+        .filter(|number| *number <= GREATEST)
+        .ok_or(Cause::NotACommand)
 }
 
 /// The value of a hexadecimal digit.
 fn digit(byte: u8) -> Option<u8>
     ensures { IfSome result (λ d. d < 16) }
 {
-    match byte {
-        b'0'..=b'9' => Some(byte - b'0'),
-        b'a'..=b'f' => Some(byte - b'a' + 10),
-        b'A'..=b'F' => Some(byte - b'A' + 10),
-        _ => None,
-    }
+    let value = char::from(byte).to_digit(16)?;
+    Some(value as u8)
 }
 
 /// The byte of two hexadecimal digits.
-fn byte_of(high: u8, low: u8) -> Option<u8> {
-    let high = digit(high)?;
-    let low = digit(low)?;
-    Some(high * 16 + low)
+fn byte_of(pair: &[u8]) -> Option<u8> {
+    let [high, low] = pair else {
+        return None;
+    };
+    Some(digit(*high)? * 16 + digit(*low)?)
 }
 
 /// The bytes that a field says, two hexadecimal digits each; `-` for none.
@@ -92,15 +82,11 @@ pub fn bytes_in(heap: Global, field: &str) -> Result<Vec<u8>, Cause> {
     if field == "-" {
         return Ok(bytes);
     }
-    let digits = field.as_bytes();
-    if digits.len() == 0 || digits.len() % 2 != 0 {
+    if field.is_empty() {
         return Err(Cause::NotACommand);
     }
-    for i in 0..digits.len() / 2 {
-        match byte_of(digits[2 * i], digits[2 * i + 1]) {
-            Some(byte) => bytes.push(byte)?,
-            None => return Err(Cause::NotACommand),
-        }
+    for pair in field.as_bytes().chunks(2) {
+        bytes.push(byte_of(pair).ok_or(Cause::NotACommand)?)?;
     }
     Ok(bytes)
 }

@@ -7,10 +7,10 @@ mod calling;
 mod command;
 mod fault;
 mod fields;
+mod line;
 mod memory;
 mod notation;
 mod running;
-mod script;
 
 pub use fault::{Cause, ScriptFault};
 pub use fields::{Fields, bytes_in, number_in};

@@ -1,162 +1,135 @@
 //! Whole scripts.
-use crate::arranging::arrange_all;
-use crate::calling::call_all;
+use crate::answers::Answers;
+use crate::arranging::arrange;
+use crate::calling::call;
+use crate::command::{Command, command_in};
 use crate::fault::{Cause, ScriptFault};
 use crate::fields::{Fields, bytes_in};
+use crate::line::{Line, lines_of};
 use crate::memory::Memory;
 use crate::notation::Notation;
-use crate::script::Script;
 use banks::{Bank, OpenBank, PackedBank};
 use controller::Controller;
+use piles::Pile;
 use signals::{Doubtful, Plain};
 use std::alloc::Global;
-use std::str::from_utf8;
+
+/// Performs the calls of a controller.
+fn run_calls<B: Bank + Drop>(
+    mut controller: Controller<B>,
+    lines: &[Line<'_>],
+    answers: &mut Answers<'_>,
+) -> Result<(), ScriptFault>
+where
+    B::Kind: Notation,
+{
+    for line in lines {
+        command_in(line.text)
+            .and_then(|command| call(&mut controller, command, answers))
+            .map_err(|cause| line.fault(cause))?;
+    }
+    Ok(())
+}
 
 /// Performs the commands on a bank: those before a controller is made of it, and those after.
 fn run_bank<B: Bank + Memory + Drop>(
     bank: B,
-    heap: Global,
-    script: &mut Script<'_>,
-    out: &mut String,
-) -> Result<(), Cause>
+    lines: &[Line<'_>],
+    answers: &mut Answers<'_>,
+) -> Result<(), ScriptFault>
 where
     B::Kind: Notation,
 {
-    match arrange_all(bank, script, out)? {
-        Some(pile) => call_all(Controller::make(pile), heap, script, out),
-        None => Ok(()),
+    let mut pile = Pile::over(bank);
+    for (at, line) in lines.iter().enumerate() {
+        let command = command_in(line.text).map_err(|cause| line.fault(cause))?;
+        if let Command::Make = command {
+            return run_calls(Controller::make(pile), &lines[at + 1..], answers);
+        }
+        pile = arrange(pile, command, answers).map_err(|cause| line.fault(cause))?;
     }
+    Ok(())
 }
 
-/// Performs the commands on an open bank.
-fn run_open<S: Notation>(
-    fields: &mut Fields<'_>,
-    heap: Global,
-    script: &mut Script<'_>,
-    out: &mut String,
-) -> Result<(), Cause> {
-    let mut cells: Vec<S> = S::cells_in(heap, fields)?;
+/// The memory that an open bank is lent.
+fn cells_in<S: Notation>(heap: Global, mut fields: Fields<'_>) -> Result<Vec<S>, Cause> {
+    let cells = S::cells_in(heap, &mut fields)?;
     fields.end()?;
-    run_bank(OpenBank::over(&mut cells), heap, script, out)
+    Ok(cells)
 }
 
-/// Performs the commands on a packed bank.
-fn run_packed(
-    fields: &mut Fields<'_>,
-    heap: Global,
-    script: &mut Script<'_>,
-    out: &mut String,
-) -> Result<(), Cause> {
-    let mut bytes = bytes_in(heap, fields.field()?)?;
+/// The memory that a packed bank is lent.
+fn packed_in(heap: Global, mut fields: Fields<'_>) -> Result<Vec<u8>, Cause> {
+    let bytes = bytes_in(heap, fields.field()?)?;
     fields.end()?;
-    run_bank(PackedBank::over(&mut bytes), heap, script, out)
+    Ok(bytes)
 }
 
-/// Performs the commands on the bank that a line describes.
-fn run_pile<S: Notation>(
-    line: &str,
-    heap: Global,
-    script: &mut Script<'_>,
-    out: &mut String,
-) -> Result<(), Cause> {
+/// The banks that a script can name.
+#[derive(Clone, Copy)]
+enum Described<'a> {
+    Open(Fields<'a>),
+    Packed(Fields<'a>),
+}
+
+/// The bank that a line describes, whose memory its fields say.
+fn bank_in<S: Notation>(line: &str) -> Result<Described<'_>, Cause> {
     let mut fields = Fields::of(line);
-    match fields.field()? {
-        "bank" => {}
-        _ => return Err(Cause::NoBank),
+    if fields.field()? != "bank" {
+        return Err(Cause::NoBank);
     }
     match fields.field()? {
-        "open" => run_open::<S>(&mut fields, heap, script, out),
-        "packed" if S::has_packed_bank() => run_packed(&mut fields, heap, script, out),
+        "open" => Ok(Described::Open(fields)),
+        "packed" if S::has_packed_bank() => Ok(Described::Packed(fields)),
         _ => Err(Cause::NoSuchKind),
     }
 }
 
-/// Performs the commands on one kind, until the script ends or another kind begins.
-fn run_kind<S: Notation>(
-    heap: Global,
-    script: &mut Script<'_>,
-    out: &mut String,
-) -> Result<(), Cause> {
-    for _ in 0..script.left() {
-        let Some(line) = script.bank() else {
-            return Ok(());
-        };
-        run_pile::<S>(line, heap, script, out)?;
-    }
-    Ok(())
-}
-
-/// Performs all commands, on the plain and the doubtful kind.
-fn run_kinds(heap: Global, script: &mut Script<'_>, out: &mut String) -> Result<(), Cause> {
-    for _ in 0..script.left() {
-        let Some(kind) = script.kind()? else {
-            return Ok(());
-        };
-        match kind {
-            "plain" => run_kind::<Plain>(heap, script, out)?,
-            "doubtful" => run_kind::<Doubtful>(heap, script, out)?,
-            _ => return Err(Cause::NoSuchKind),
+/// Performs a section: the first line describes a bank, and the commands that follow are for it.
+fn run_section<S: Notation>(
+    section: &[Line<'_>],
+    answers: &mut Answers<'_>,
+) -> Result<(), ScriptFault> {
+    let Some((first, rest)) = section.split_first() else {
+        return Ok(());
+    };
+    match bank_in::<S>(first.text).map_err(|cause| first.fault(cause))? {
+        Described::Open(fields) => {
+            let mut cells = cells_in::<S>(answers.heap(), fields).map_err(|cause| first.fault(
+                cause,
+            ))?;
+            run_bank(OpenBank::over(&mut cells), rest, answers)
+        }
+        Described::Packed(fields) => {
+            let mut bytes = packed_in(answers.heap(), fields).map_err(|cause| first.fault(cause))?;
+            run_bank(PackedBank::over(&mut bytes), rest, answers)
         }
     }
-    Ok(())
 }
 
-/// Performs all commands, on one kind.
-fn run_one<S: Notation>(
-    heap: Global,
-    script: &mut Script<'_>,
-    out: &mut String,
-) -> Result<(), Cause> {
-    for _ in 0..script.left() {
-        let Some(kind) = script.kind()? else {
-            return Ok(());
-        };
-        if kind != S::name() {
-            return Err(Cause::NoSuchKind);
-        }
-        run_kind::<S>(heap, script, out)?;
+/// Performs the commands on one kind, bank after bank.
+fn run_kind<S: Notation>(lines: &[Line<'_>], answers: &mut Answers<'_>) -> Result<(), ScriptFault> {
+    for section in lines.chunk_by(|_, next| !next.begins_bank()) {
+        run_section::<S>(section, answers)?;
     }
     Ok(())
-}
-
-/// Names the line at which a script went wrong.
-fn at_line(outcome: Result<(), Cause>, line: usize) -> Result<(), ScriptFault> {
-    match outcome {
-        Ok(()) => Ok(()),
-        Err(cause) => Err(ScriptFault { line, cause }),
-    }
-}
-
-/// The line of a byte, counted from 1.
-fn line_of(text: &[u8], at: usize) -> usize {
-    let mut line = 1usize;
-    for byte in text.iter().take(at) {
-        if *byte == b'\n' {
-            line = line.saturating_add(1);
-        }
-    }
-    line
-}
-
-/// The lines of a script; a byte that is not text is no command.
-fn script_of<'a>(heap: Global, text: &'a [u8]) -> Result<Script<'a>, ScriptFault> {
-    match from_utf8(text) {
-        Ok(text) => match Script::of(heap, text) {
-            Ok(script) => Ok(script),
-            Err(cause) => Err(ScriptFault { line: 1, cause }),
-        },
-        Err(error) => Err(ScriptFault {
-            line: line_of(text, error.valid_up_to()),
-            cause: Cause::NotACommand,
-        }),
-    }
 }
 
 /// Performs a script on the plain and the doubtful kind, and appends the answers, as far as it goes.
 pub fn run_script(heap: Global, text: &[u8], out: &mut String) -> Result<(), ScriptFault> {
-    let mut script = script_of(heap, text)?;
-    let outcome = run_kinds(heap, &mut script, out);
-    at_line(outcome, script.line())
+    let lines = lines_of(heap, text)?;
+    let mut answers = Answers::after(out);
+    for section in lines.chunk_by(|_, next| !next.begins_kind()) {
+        let Some((first, rest)) = section.split_first() else {
+            return Ok(());
+        };
+        match first.kind().map_err(|cause| first.fault(cause))? {
+            "plain" => run_kind::<Plain>(rest, &mut answers)?,
+            "doubtful" => run_kind::<Doubtful>(rest, &mut answers)?,
+            _ => return Err(first.fault(Cause::NoSuchKind)),
+        }
+    }
+    Ok(())
 }
 
 /// Performs a script on one kind, and appends the answers, as far as it goes.
@@ -165,7 +138,16 @@ pub fn run_script_on<S: Notation>(
     text: &[u8],
     out: &mut String,
 ) -> Result<(), ScriptFault> {
-    let mut script = script_of(heap, text)?;
-    let outcome = run_one::<S>(heap, &mut script, out);
-    at_line(outcome, script.line())
+    let lines = lines_of(heap, text)?;
+    let mut answers = Answers::after(out);
+    for section in lines.chunk_by(|_, next| !next.begins_kind()) {
+        let Some((first, rest)) = section.split_first() else {
+            return Ok(());
+        };
+        if first.kind().map_err(|cause| first.fault(cause))? != S::name() {
+            return Err(first.fault(Cause::NoSuchKind));
+        }
+        run_kind::<S>(rest, &mut answers)?;
+    }
+    Ok(())
 }
