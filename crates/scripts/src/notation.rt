@@ -27,12 +27,24 @@ pub trait Notation: Signal {
 
 /// A kind whose signals are one letter each.
 trait Lettered: Signal {
+    fn name() -> &'static str;
+
+    fn has_packed_bank() -> bool;
+
     fn letter(self) -> char;
 
     fn of_letter(letter: char) -> Option<Self>;
 }
 
 impl Lettered for Plain {
+    fn name() -> &'static str {
+        "plain"
+    }
+
+    fn has_packed_bank() -> bool {
+        false
+    }
+
     fn letter(self) -> char {
         match self {
             Plain::Off => '0',
@@ -50,6 +62,14 @@ impl Lettered for Plain {
 }
 
 impl Lettered for Doubtful {
+    fn name() -> &'static str {
+        "doubtful"
+    }
+
+    fn has_packed_bank() -> bool {
+        true
+    }
+
     fn letter(self) -> char {
         match self {
             Doubtful::Off => '0',
@@ -68,61 +88,38 @@ impl Lettered for Doubtful {
     }
 }
 
-/// The signal of a field of one letter.
-fn letter_in<S: Lettered>(field: &str) -> Option<S> {
-    let mut letters = field.chars();
-    let signal = S::of_letter(letters.next()?)?;
-    if letters.next().is_some() {
-        return None;
+/// A signal is its letter, a list of signals a letter each, or `-` for none.
+impl<S: Lettered> Notation for S {
+    fn name() -> &'static str {
+        S::name()
     }
-    Some(signal)
-}
 
-/// One letter a cell; `-` for no cells.
-fn letters_in<S: Lettered>(heap: Global, fields: &mut Fields<'_>) -> Result<Vec<S>, Cause> {
-    let field = fields.field()?;
-    let mut cells = Vec::new(heap);
-    if field == "-" {
-        return Ok(cells);
+    fn has_packed_bank() -> bool {
+        S::has_packed_bank()
     }
-    if field.is_empty() {
-        return Err(Cause::NotACommand);
-    }
-    for letter in field.chars() {
-        match S::of_letter(letter) {
-            Some(signal) => cells.push(signal)?,
-            None => return Err(Cause::NotACommand),
+
+    fn signal_in(field: &str) -> Option<S> {
+        let mut letters = field.chars();
+        let signal = S::of_letter(letters.next()?)?;
+        match letters.next() {
+            None => Some(signal),
+            Some(_) => None,
         }
     }
-    Ok(cells)
-}
 
-/// One letter a signal; `-` for none.
-fn write_letters<S: Lettered>(signals: &[S], out: &mut String) -> Result<(), Cause> {
-    if signals.is_empty() {
-        out.push('-')?;
-    }
-    for signal in signals {
-        out.push(signal.letter())?;
-    }
-    Ok(())
-}
-
-impl Notation for Plain {
-    fn name() -> &'static str {
-        "plain"
-    }
-
-    fn has_packed_bank() -> bool {
-        false
-    }
-
-    fn signal_in(field: &str) -> Option<Plain> {
-        letter_in(field)
-    }
-
-    fn cells_in(heap: Global, fields: &mut Fields<'_>) -> Result<Vec<Plain>, Cause> {
-        letters_in(heap, fields)
+    fn cells_in(heap: Global, fields: &mut Fields<'_>) -> Result<Vec<S>, Cause> {
+        let field = fields.field()?;
+        let mut cells = Vec::new(heap);
+        if field == "-" {
+            return Ok(cells);
+        }
+        if field.is_empty() {
+            return Err(Cause::NotACommand);
+        }
+        for letter in field.chars() {
+            cells.push(S::of_letter(letter).ok_or(Cause::NotACommand)?)?;
+        }
+        Ok(cells)
     }
 
     fn write(self, out: &mut String) -> Result<(), Cause> {
@@ -130,34 +127,13 @@ impl Notation for Plain {
         Ok(())
     }
 
-    fn write_list(signals: &[Plain], out: &mut String) -> Result<(), Cause> {
-        write_letters(signals, out)
-    }
-}
-
-impl Notation for Doubtful {
-    fn name() -> &'static str {
-        "doubtful"
-    }
-
-    fn has_packed_bank() -> bool {
-        true
-    }
-
-    fn signal_in(field: &str) -> Option<Doubtful> {
-        letter_in(field)
-    }
-
-    fn cells_in(heap: Global, fields: &mut Fields<'_>) -> Result<Vec<Doubtful>, Cause> {
-        letters_in(heap, fields)
-    }
-
-    fn write(self, out: &mut String) -> Result<(), Cause> {
-        out.push(self.letter())?;
+    fn write_list(signals: &[S], out: &mut String) -> Result<(), Cause> {
+        if signals.is_empty() {
+            out.push('-')?;
+        }
+        for signal in signals {
+            out.push(signal.letter())?;
+        }
         Ok(())
-    }
-
-    fn write_list(signals: &[Doubtful], out: &mut String) -> Result<(), Cause> {
-        write_letters(signals, out)
     }
 }

@@ -73,7 +73,7 @@ enum Described<'a> {
 }
 
 /// The bank that a line describes, whose memory its fields say.
-fn described<S: Notation>(line: &str) -> Result<Described<'_>, Cause> {
+fn bank_in<S: Notation>(line: &str) -> Result<Described<'_>, Cause> {
     let mut fields = Fields::of(line);
     if fields.field()? != "bank" {
         return Err(Cause::NoBank);
@@ -93,25 +93,22 @@ fn run_section<S: Notation>(
     let Some((first, rest)) = section.split_first() else {
         return Ok(());
     };
-    match described::<S>(first.text).map_err(|cause| first.fault(cause))? {
+    match bank_in::<S>(first.text).map_err(|cause| first.fault(cause))? {
         Described::Open(fields) => {
-            let mut cells =
-                cells_in::<S>(answers.heap(), fields).map_err(|cause| first.fault(cause))?;
+            let mut cells = cells_in::<S>(answers.heap(), fields).map_err(|cause| first.fault(
+                cause,
+            ))?;
             run_bank(OpenBank::over(&mut cells), rest, answers)
         }
         Described::Packed(fields) => {
-            let mut bytes =
-                packed_in(answers.heap(), fields).map_err(|cause| first.fault(cause))?;
+            let mut bytes = packed_in(answers.heap(), fields).map_err(|cause| first.fault(cause))?;
             run_bank(PackedBank::over(&mut bytes), rest, answers)
         }
     }
 }
 
 /// Performs the commands on one kind, bank after bank.
-fn run_kind<S: Notation>(
-    lines: &[Line<'_>],
-    answers: &mut Answers<'_>,
-) -> Result<(), ScriptFault> {
+fn run_kind<S: Notation>(lines: &[Line<'_>], answers: &mut Answers<'_>) -> Result<(), ScriptFault> {
     for section in lines.chunk_by(|_, next| !next.begins_bank()) {
         run_section::<S>(section, answers)?;
     }
