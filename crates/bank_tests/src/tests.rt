@@ -15,14 +15,19 @@ fn open_counts(rt: &impl Abort, given: usize, count: usize) {
 
 #[test]
 fn open_count(rt: HostRuntime) {
-    open_counts(&rt, 0, 0);
-    open_counts(&rt, 1, 1);
-    open_counts(&rt, 255, 255);
-    open_counts(&rt, 256, 256);
-    open_counts(&rt, 767, 767);
-    open_counts(&rt, 768, 768);
-    open_counts(&rt, 769, 768);
-    open_counts(&rt, 800, 768);
+    let cases = [
+        (0, 0),
+        (1, 1),
+        (255, 255),
+        (256, 256),
+        (767, 767),
+        (768, 768),
+        (769, 768),
+        (800, 768),
+    ];
+    for (given, count) in cases {
+        open_counts(&rt, given, count);
+    }
 }
 
 #[test]
@@ -45,23 +50,33 @@ fn packed_counts(rt: &impl Abort, given: usize, count: usize) {
 
 #[test]
 fn packed_count(rt: HostRuntime) {
-    packed_counts(&rt, 0, 0);
-    packed_counts(&rt, 1, 4);
-    packed_counts(&rt, 64, 256);
-    packed_counts(&rt, 191, 764);
-    packed_counts(&rt, 192, 768);
-    packed_counts(&rt, 193, 768);
+    let cases = [
+        (0, 0),
+        (1, 4),
+        (64, 256),
+        (191, 764),
+        (192, 768),
+        (193, 768),
+    ];
+    for (given, count) in cases {
+        packed_counts(&rt, given, count);
+    }
 }
 
 #[test]
 fn packed_bits(rt: HostRuntime) {
     let mut bytes = [0b11_00_01_10u8, 0b11_11_11_11u8];
     let bank = PackedBank::over(&mut bytes);
-    assert_eq!(rt; bank.read(0), Some(Doubtful::Unknown));
-    assert_eq!(rt; bank.read(1), Some(Doubtful::Off));
-    assert_eq!(rt; bank.read(2), Some(Doubtful::On));
-    assert_eq!(rt; bank.read(3), Some(Doubtful::Unknown));
-    assert_eq!(rt; bank.read(8), None);
+    let cases = [
+        (0, Some(Doubtful::Unknown)),
+        (1, Some(Doubtful::Off)),
+        (2, Some(Doubtful::On)),
+        (3, Some(Doubtful::Unknown)),
+        (8, None),
+    ];
+    for (index, signal) in cases {
+        assert_eq!(rt; bank.read(index), signal);
+    }
     assert_eq!(rt;
         lend_packed(&mut bytes, 5, Doubtful::On),
         Some(Doubtful::On)
@@ -95,11 +110,17 @@ fn strip_reads(
 
 #[test]
 fn strip(rt: HostRuntime) -> Result<(), Fail> {
-    strip_reads(&rt, 0, 0, None)?;
-    strip_reads(&rt, 1, 0, Some(Plain::On))?;
-    strip_reads(&rt, 255, 255, None)?;
-    strip_reads(&rt, 256, 255, Some(Plain::On))?;
-    strip_reads(&rt, 768, 255, Some(Plain::On))
+    let cases = [
+        (0, 0, None),
+        (1, 0, Some(Plain::On)),
+        (255, 255, None),
+        (256, 255, Some(Plain::On)),
+        (768, 255, Some(Plain::On)),
+    ];
+    for (given, input, signal) in cases {
+        strip_reads(&rt, given, input, signal)?;
+    }
+    Ok(())
 }
 
 /// The inputs 0 and 255 change places if the bank below has all inputs.
@@ -117,12 +138,18 @@ fn board_reads(rt: &impl Abort, given: usize, first: Plain) -> Result<(), Fail> 
 
 #[test]
 fn board(rt: HostRuntime) -> Result<(), Fail> {
-    board_reads(&rt, 1, Plain::On)?;
-    board_reads(&rt, 255, Plain::On)?;
-    board_reads(&rt, 256, Plain::Off)?;
-    board_reads(&rt, 767, Plain::Off)?;
-    board_reads(&rt, 768, Plain::Off)?;
-    board_reads(&rt, 800, Plain::Off)
+    let cases = [
+        (1, Plain::On),
+        (255, Plain::On),
+        (256, Plain::Off),
+        (767, Plain::Off),
+        (768, Plain::Off),
+        (800, Plain::Off),
+    ];
+    for (given, first) in cases {
+        board_reads(&rt, given, first)?;
+    }
+    Ok(())
 }
 
 #[test]

@@ -3,4 +3,3 @@ pub mod Pairs
 pub mod Marking
 pub mod Swapping
 pub mod Patching
-pub mod Writing

@@ -1,11 +1,11 @@
--- The points that lie in the first slots of a row.
-use Rattle.std.proofs.Common.{◌≡◌, ℕ, ◌<◌, List, length, get_or, take, Some, sym, refl, ◌∙◌, arith, length-take, get_or-take}
+-- The signal that lies in a slot.
+use Rattle.std.proofs.Common.{◌≡◌, ℕ, List, Some, None, Option, sym, refl}
+use Rattle.std.specs.Borrow.{Bor}
 use Rattle.std.specs.List.{slice_get}
-use Rattle.std.proofs.lemmas.Option.{slice_get_read}
+use Rattle.std.specs.Option.{option_copied}
+use Rattle.std.specs.Slice.{IsItemAt}
+use Rattle.std.proofs.lemmas.Option.{slice_get_past, slice_get_read}
 
-module _ {S : Type 0} (xs : List S) (i n : ℕ) (h : i < length (take n xs)) where
-  pub taken_below : i < n
-  taken_below = omega (arith, length-take n xs)
-
-  pub taken_read : (x : S) → x ≡ get_or xs i x → Some x ≡ slice_get (take n xs) i
-  taken_read x e = sym (slice_get_read (take n xs) _ i x refl h (e ∙ sym (get_or-take n xs i x taken_below)))
+pub copied_item : {S : Type 0} (xs : List S) (i : ℕ) (r : Option (Bor S)) → IsItemAt xs i r → option_copied r ≡ slice_get xs i
+copied_item xs i None h = sym (slice_get_past xs i h.3)
+copied_item xs i (Some x) h = sym (slice_get_read xs _ i x.now refl h.3.0 h.1)

@@ -1,5 +1,5 @@
 //! The open bank: one signal a point, in memory given to it.
-ghost use Rattle.std.specs.Prelude.{◌≡◌, ℕ, ◌≤◌, List, length, take, drop, nat_lt, slice_set};
+ghost use Rattle.std.specs.Prelude.{◌≡◌, ℕ, List, length, take, drop, nat_lt, slice_set};
 ghost use Rattle.std.specs.List.{slice_get};
 ghost use Rattle.banks.specs.Kept.{lent};
 ghost use Rattle.banks.specs.Short.{open_short};
@@ -28,30 +28,26 @@ impl<'a, S: Signal> OpenBank<'a, S> {
     }
 }
 
-/// As many points as there are slots, at most 768.
-fn slots_count<S>(slots: &[S]) -> usize
-    ensures within { result ≤ length slots.now }
-    ensures taken { result ≡ length (take 768 slots.now) }
+/// The slots that are points: all of them, but at most 768.
+fn point_slots<S>(slots: &[S]) -> &[S]
+    ensures { result.now ≡ take 768 slots.now }
 {
-    slots.len().min(768)
+    &slots[..slots.len().min(768)]
 }
 
 fn slots_read<S: Signal>(slots: &[S], index: usize) -> Option<S>
     ensures { result ≡ slice_get (take 768 slots.now) index }
 {
-    if index < slots_count(slots) {
-        Some(slots[index])
-    } else {
-        None
-    }
+    point_slots(slots).get(index).copied()
 }
 
+// Kept as a test of the index: a lent part of the memory would say nothing of what lies beyond the points.
 fn slots_write<S: Signal>(slots: &mut [S], index: usize, signal: S) -> bool
     ensures told { result ≡ nat_lt index (length (take 768 slots.old)) }
     ensures after { take 768 slots.new ≡ slice_set (take 768 slots.old) index signal }
     ensures untouched { drop 768 slots.new ≡ drop 768 slots.old }
 {
-    if index < slots_count(slots) {
+    if index < point_slots(slots).len() {
         slots[index] = signal;
         true
     } else {
@@ -71,7 +67,7 @@ impl<'a, S: Signal> Bank for OpenBank<'a, S> {
     ghost rest = { λ b. lent b.slots.ghost_name (drop 768 b.slots.now) };
 
     fn count(&self) -> usize {
-        slots_count(self.slots)
+        point_slots(self.slots).len()
     }
 
     fn read(&self, index: usize) -> Option<S> {

@@ -29,49 +29,65 @@ impl<'a> PackedBank<'a> {
     }
 }
 
-fn signal_of(bits: u8) -> Doubtful
-    ensures { result ≡ meant bits }
-{
-    match bits {
-        0 => Doubtful::Off,
-        1 => Doubtful::On,
-        _ => Doubtful::Unknown,
+/// Two bits of a byte.
+#[derive(Clone, Copy)]
+struct Pair {
+    bits: u8,
+    ghost small: { bits < 4 },
+}
+
+impl From<Doubtful> for Pair {
+    ghost from_gives = { λ signal two. two.bits ≡ written signal };
+
+    fn from(signal: Doubtful) -> Pair {
+        match signal {
+            Doubtful::Off => Pair { bits: 0 },
+            Doubtful::Unknown => Pair { bits: 2 },
+            Doubtful::On => Pair { bits: 1 },
+        }
     }
 }
 
-fn bits_for(signal: Doubtful) -> u8
-    ensures value { result ≡ written signal }
-    ensures small { result < 4 }
-{
-    match signal {
-        Doubtful::Off => 0,
-        Doubtful::Unknown => 2,
-        Doubtful::On => 1,
+impl From<Pair> for Doubtful {
+    ghost from_gives = { λ two signal. signal ≡ meant two.bits };
+
+    fn from(two: Pair) -> Doubtful {
+        match two.bits {
+            0 => Doubtful::Off,
+            1 => Doubtful::On,
+            _ => Doubtful::Unknown,
+        }
     }
 }
 
-/// The two bits at a place of a byte, counted from the most significant.
-fn pair_at(byte: u8, place: usize) -> u8
-    ensures { result ≡ pair byte place }
-{
-    match place {
-        0 => byte / 64 % 4,
-        1 => byte / 16 % 4,
-        2 => byte / 4 % 4,
-        _ => byte % 4,
+impl Pair {
+    /// The two bits at a place of a byte, counted from the most significant.
+    fn at(byte: u8, place: usize) -> Pair
+        ensures { result.bits ≡ pair byte place }
+    {
+        match place {
+            0 => Pair {
+                bits: byte / 64 % 4,
+            },
+            1 => Pair {
+                bits: byte / 16 % 4,
+            },
+            2 => Pair { bits: byte / 4 % 4 },
+            _ => Pair { bits: byte % 4 },
+        }
     }
-}
 
-/// The byte with two bits replaced, the other six as they were.
-fn with_pair(byte: u8, place: usize, bits: u8) -> u8
-    requires { bits < 4 }
-    ensures { result ≡ with_pair byte place bits }
-{
-    match place {
-        0 => bits * 64 + byte % 64,
-        1 => byte / 64 * 64 + bits * 16 + byte % 16,
-        2 => byte / 16 * 16 + bits * 4 + byte % 4,
-        _ => byte / 4 * 4 + bits,
+    /// The byte with the two bits at a place, the other six as they were.
+    fn put(self, byte: u8, place: usize) -> u8
+        ensures { result ≡ with_pair byte place self.bits }
+    {
+        let bits = self.bits;
+        match place {
+            0 => bits * 64 + byte % 64,
+            1 => byte / 64 * 64 + bits * 16 + byte % 16,
+            2 => byte / 16 * 16 + bits * 4 + byte % 4,
+            _ => byte / 4 * 4 + bits,
+        }
     }
 }
 
@@ -82,11 +98,12 @@ fn bytes_count(bytes: &[u8]) -> usize
     4 * bytes.len().min(192)
 }
 
+// Kept as a test of the index, here and in the write: four points share a byte, so `get` would test the byte's index.
 fn bytes_read(bytes: &[u8], index: usize) -> Option<Doubtful>
     ensures { result ≡ slice_get (unpacked bytes.now) index }
 {
     if index < bytes_count(bytes) {
-        Some(signal_of(pair_at(bytes[index / 4], index % 4)))
+        Some(Doubtful::from(Pair::at(bytes[index / 4], index % 4)))
     } else {
         None
     }
@@ -100,7 +117,7 @@ fn bytes_write(bytes: &mut [u8], index: usize, signal: Doubtful) -> bool
     ensures untouched { drop 192 bytes.new ≡ drop 192 bytes.old }
 {
     if index < bytes_count(bytes) {
-        bytes[index / 4] = with_pair(bytes[index / 4], index % 4, bits_for(signal));
+        bytes[index / 4] = Pair::from(signal).put(bytes[index / 4], index % 4);
         true
     } else {
         false

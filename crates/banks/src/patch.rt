@@ -35,8 +35,7 @@ impl<B: Bank> PatchBoard<B> {
     pub fn into_bank(self) -> B
         ensures { result ≡ self.bank }
     {
-        let PatchBoard { bank, table: _ } = self;
-        bank
+        self.bank
     }
 
     /// The bank below.

@@ -6,15 +6,13 @@ ghost use Rattle.banks.specs.Refusals.{refusal_number};
 #[derive(Clone, Copy, PartialEq, Eq, Debug)]
 pub enum Refusal {
     /// There is no input of that number: inputs go from 0 to 255.
-    NoSuchInput,
+    NoSuchInput = 15,
 }
 
 impl Refusal {
     pub fn number(self) -> u8
         ensures { result ≡ refusal_number self }
     {
-        match self {
-            Refusal::NoSuchInput => 15,
-        }
+        self as u8
     }
 }

@@ -25,7 +25,7 @@ pub struct Strip<B> {
 fn mark_of(marks: &[bool; 256], index: usize) -> bool
     ensures { result ≡ slice_index_or marks.now index false }
 {
-    if index < 256 { marks[index] } else { false }
+    marks.get(index).copied().unwrap_or(false)
 }
 
 /// A signal on its way past the mark of a point, if it has one.
@@ -56,8 +56,7 @@ impl<B: Bank> Strip<B> {
     pub fn into_bank(self) -> B
         ensures { result ≡ self.bank }
     {
-        let Strip { bank, marks: _ } = self;
-        bank
+        self.bank
     }
 
     /// The bank below.
@@ -90,6 +89,7 @@ impl<B: Bank> Strip<B> {
         ensures here { input < 256 → slice_get (strip_shows B.Kind.Signal.kind B.points self.new) input ≡ option_map (past B.Kind.Signal.kind inverted) (slice_get (B.points self.old.bank) input) }
         ensures elsewhere { Elsewhere input (strip_shows B.Kind.Signal.kind B.points self.old) (strip_shows B.Kind.Signal.kind B.points self.new) }
     {
+        // Kept as a test of the number: of a mark lent by `get_mut` and `ok_or`, nothing is proved of the other marks.
         if input < 256 {
             self.marks[input] = inverted;
             Ok(())
@@ -115,10 +115,9 @@ impl<B: Bank> Bank for Strip<B> {
     }
 
     fn read(&self, index: usize) -> Option<B::Kind> {
-        match self.bank.read(index) {
-            None => None,
-            Some(signal) => Some(past_mark(&self.marks, index, signal)),
-        }
+        self.bank
+            .read(index)
+            .map(|signal| past_mark(&self.marks, index, signal))
     }
 
     /// The marks stay, and the bank below takes the signal as the mark passes it on.

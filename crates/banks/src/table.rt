@@ -2,6 +2,8 @@
 ghost use Rattle.std.specs.Prelude.{◌≡◌, length};
 ghost use Rattle.banks.specs.Patches.{Within, Apart, Straight, swapped, place};
 
+use std::array;
+
 /// For each input the number of an input below; no two inputs share one.
 #[derive(Clone, Copy)]
 pub struct Table {
@@ -16,10 +18,7 @@ impl Table {
     pub fn straight() -> Table
         ensures { Straight result.to }
     {
-        let mut to = [0u8; 256];
-        for i in 0..256usize {
-            to[i] = i as u8;
-        }
+        let to = array::from_fn(|input| input as u8);
         Table { to }
     }
 
@@ -28,10 +27,7 @@ impl Table {
         ensures { self.new.to ≡ swapped 0 self.old.to a b }
     {
         let mut to = self.to;
-        let first = to[a as usize];
-        let second = to[b as usize];
-        to[a as usize] = second;
-        to[b as usize] = first;
+        to.swap(a as usize, b as usize);
         self.to = to;
     }
 

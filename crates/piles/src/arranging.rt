@@ -1,21 +1,11 @@
 //! Arranging one layer.
 ghost use Rattle.std.specs.Prelude.{◌≡◌};
-ghost use Rattle.piles.specs.Arranged.{passed_on, mark_told, marking, exchange_told, Exchanging};
+ghost use Rattle.piles.specs.Arranged.{mark_told, marking, exchange_told, Exchanging};
 ghost use Rattle.piles.specs.Layered.{bottom};
 
 use crate::fault::ArrangeFault;
 use crate::layer::Layer;
-use banks::{Bank, Refusal};
-
-/// A layer's own answer, as the pile answers it.
-fn passed_on(answer: Result<(), Refusal>) -> Result<(), ArrangeFault>
-    ensures { result ≡ passed_on answer }
-{
-    match answer {
-        Ok(()) => Ok(()),
-        Err(refusal) => Err(ArrangeFault::Refused(refusal)),
-    }
-}
+use banks::Bank;
 
 impl<B: Bank> Layer<B> {
     /// The bank below.
@@ -35,7 +25,7 @@ impl<B: Bank> Layer<B> {
         ensures after { self.new ≡ marking self.old input inverted }
     {
         match self {
-            Layer::Marked(strip) => passed_on(strip.mark(input, inverted)),
+            Layer::Marked(strip) => strip.mark(input, inverted).map_err(ArrangeFault::Refused),
             _ => Err(ArrangeFault::NoSuchLayer),
         }
     }
@@ -46,7 +36,7 @@ impl<B: Bank> Layer<B> {
         ensures after { Exchanging self.old a b self.new }
     {
         match self {
-            Layer::Patched(board) => passed_on(board.exchange(a, b)),
+            Layer::Patched(board) => board.exchange(a, b).map_err(ArrangeFault::Refused),
             _ => Err(ArrangeFault::NoSuchLayer),
         }
     }

@@ -1,14 +1,7 @@
-use Rattle.std.proofs.Common.{◌<◌, ◌≤◌, length, take, sym, rules}
-use Rattle.std.proofs.lemmas.Option.{slice_get_past}
-use Rattle.banks.proofs.Slots.{taken_read}
+use Rattle.std.proofs.Common.{ap, ◌∙◌}
+use Rattle.std.specs.List.{slice_get}
+use Rattle.banks.proofs.Slots.{copied_item}
 use Rattle.banks.proofs.open.slots_read.Goals as goal
 
-pub returns-then-index-slots_count : goal.returns-then-index-slots_count
-returns-then-index-slots_count g c =
-    let h : c.args.index < length (take 768 c.args.slots.now) = search rules in
-    search (rules, taken_read)
-
-pub returns-else-index-slots_count : goal.returns-else-index-slots_count
-returns-else-index-slots_count g c =
-    let h : length (take 768 c.args.slots.now) ≤ c.args.index = search rules in
-    sym (slice_get_past _ _ h)
+pub returns : goal.returns
+returns g c = c.copied.ensures ∙ copied_item c.point_slots.result.now c.args.index c.get.result c.get.ensures.lookup ∙ ap (λ ys. slice_get ys c.args.index) c.point_slots.ensures

@@ -8,7 +8,7 @@ use Rattle.banks.proofs.packed.bytes_read.Goals as goal
 pub returns-then-index-bytes_count : goal.returns-then-index-bytes_count
 returns-then-index-bytes_count c =
     let h : c.args.index < held c.args.bytes.now = omega (arith, c.bytes_count.ensures) in
-    ap Some (c.signal_of.ensures ∙ ap meant c.pair_at.ensures) ∙ sym (slice_get-unpacked c.args.bytes.now c.args.index h)
+    ap Some (c.from.ensures ∙ ap meant c.at.ensures) ∙ sym (slice_get-unpacked c.args.bytes.now c.args.index h)
 
 pub returns-else-index-bytes_count : goal.returns-else-index-bytes_count
 returns-else-index-bytes_count c =

@@ -1,38 +1,38 @@
-use Rattle.std.proofs.Common.{◌≡◌, ℕ, ◌/◌, ◌%◌, ◌<◌, ◌≤◌, ltb, List, length, get_or, drop, set, sym, refl, ap, ◌∙◌, arith}
+use Rattle.std.proofs.Common.{◌/◌, ◌%◌, ◌<◌, ◌≤◌, length, get_or, drop, set, sym, ap, ◌∙◌, arith}
 use Rattle.std.proofs.lemmas.List.{set_past}
-use Rattle.std.proofs.lemmas.Bool.{lt-ltb, le-ltb, cond-true, cond-false}
-use Rattle.banks.specs.Packing.{unpacked, with_pair, written, held, bits_of}
+use Rattle.std.proofs.lemmas.Bool.{lt-ltb, le-ltb}
+use Rattle.banks.specs.Packing.{unpacked, with_pair, held}
 use Rattle.banks.specs.Short.{length-unpacked}
-use Rattle.banks.proofs.Pairs.{set-unpacked, bits-other, drop-after}
+use Rattle.banks.proofs.Pairs.{set-unpacked, drop-after}
 use Rattle.banks.proofs.packed.bytes_write.Goals as goal
 
-pub returns-then-index-bytes_count : goal.returns-then-index-bytes_count
-returns-then-index-bytes_count c =
-    let bytes : List ℕ = c.args.bytes.now in
-    let i : ℕ = c.args.index in
-    let s = c.args.signal in
-    let h : c.args.index < held c.args.bytes.now = omega (arith, c.bytes_count.ensures) in
-    let k : c.args.index < length (unpacked c.args.bytes.now) = omega (arith, length-unpacked c.args.bytes.now) in
-    let e : set c.args.bytes.now (c.args.index / 4) c.with_pair.result ≡ set c.args.bytes.now (c.args.index / 4) (with_pair (get_or c.args.bytes.now (c.args.index / 4) 0) (c.args.index % 4) (written c.args.signal)) =
-    ap (set bytes (i / 4)) (c.with_pair.ensures ∙ ap (with_pair (get_or bytes (i / 4) 0) (i % 4)) c.bits_for.ensures.value) in
-    record {
-      told = sym (lt-ltb i (length (unpacked bytes)) k);
-      after = ap unpacked e ∙ set-unpacked bytes i s h;
-      whole = e ∙ sym (cond-true (ltb i (held bytes)) _ bytes (lt-ltb i (held bytes) h));
-      others = λ j n. ap (λ (bs : List ℕ). bits_of bs j) e ∙ bits-other bytes i s h j n;
-      untouched = ap (drop 192) e ∙ drop-after bytes i s h;
-    }
+pub returns-then-index-bytes_count-clause-told : goal.returns-then-index-bytes_count-clause-told
+returns-then-index-bytes_count-clause-told c =
+    let k : c.args.index < length (unpacked c.args.bytes.now) = omega (arith, c.bytes_count.ensures, length-unpacked c.args.bytes.now) in
+    sym (lt-ltb c.args.index (length (unpacked c.args.bytes.now)) k)
 
-pub returns-else-index-bytes_count : goal.returns-else-index-bytes_count
-returns-else-index-bytes_count c =
-    let bytes : List ℕ = c.args.bytes.now in
-    let i : ℕ = c.args.index in
-    let h : held c.args.bytes.now ≤ c.args.index = omega (arith, c.bytes_count.ensures) in
-    let k : length (unpacked c.args.bytes.now) ≤ c.args.index = omega (arith, length-unpacked c.args.bytes.now) in
-    record {
-      told = sym (le-ltb i (length (unpacked bytes)) k);
-      after = sym (set_past (unpacked bytes) i c.args.signal k);
-      whole = sym (cond-false (ltb i (held bytes)) _ bytes (le-ltb i (held bytes) h));
-      others = λ j n. refl;
-      untouched = refl;
-    }
+pub returns-then-index-bytes_count-clause-after : goal.returns-then-index-bytes_count-clause-after
+returns-then-index-bytes_count-clause-after c =
+    let bytes = c.args.bytes.now in
+    let i = c.args.index in
+    let h : c.args.index < held c.args.bytes.now = omega (arith, c.bytes_count.ensures) in
+    let e = c.put.ensures ∙ ap (with_pair (get_or bytes (i / 4) 0) (i % 4)) c.from.ensures in
+    ap (λ b. unpacked (set bytes (i / 4) b)) e ∙ set-unpacked bytes i c.args.signal h
+
+pub returns-then-index-bytes_count-clause-untouched : goal.returns-then-index-bytes_count-clause-untouched
+returns-then-index-bytes_count-clause-untouched c =
+    let bytes = c.args.bytes.now in
+    let i = c.args.index in
+    let h : c.args.index < held c.args.bytes.now = omega (arith, c.bytes_count.ensures) in
+    let e = c.put.ensures ∙ ap (with_pair (get_or bytes (i / 4) 0) (i % 4)) c.from.ensures in
+    ap (λ b. drop 192 (set bytes (i / 4) b)) e ∙ drop-after bytes i c.args.signal h
+
+pub returns-else-index-bytes_count-clause-told : goal.returns-else-index-bytes_count-clause-told
+returns-else-index-bytes_count-clause-told c =
+    let k : length (unpacked c.args.bytes.now) ≤ c.args.index = omega (arith, c.bytes_count.ensures, length-unpacked c.args.bytes.now) in
+    sym (le-ltb c.args.index (length (unpacked c.args.bytes.now)) k)
+
+pub returns-else-index-bytes_count-clause-after : goal.returns-else-index-bytes_count-clause-after
+returns-else-index-bytes_count-clause-after c =
+    let k : length (unpacked c.args.bytes.now) ≤ c.args.index = omega (arith, c.bytes_count.ensures, length-unpacked c.args.bytes.now) in
+    sym (set_past (unpacked c.args.bytes.now) c.args.index c.args.signal k)

@@ -1,10 +1,15 @@
-use Rattle.std.proofs.Common.{◌<◌, ◌≢◌, length, arith, length-set, get_or-set_other, get_or-set_same, below_more}
+use Rattle.std.proofs.Common.{sym, ◌∙◌, arith, rules}
+use Rattle.banks.specs.Patches.{Straight}
 use Rattle.banks.proofs.table.Table.straight.Goals as goal
 
-pub loop-i-preserved : goal.loop-i-preserved
-loop-i-preserved c = (
-  simp length-set c.loop-i.invariant.0,
-  below_more _ _
-      (λ k h. let ne : k ≢ c.loop-i.i = omega arith in rw get_or-set_other (c.loop-i.invariant.1 k h))
-      (let lt : c.loop-i.i < length c.loop-i.to = omega arith in rw get_or-set_same),
-)
+pub invariant_of-result : goal.invariant_of-result
+invariant_of-result c =
+    let own : Straight c.from_fn-to.result = λ i h. let at = c.from_fn-to.ensures.items.at i 0 h in search rules in
+    record {
+      whole = c.from_fn-to.ensures.items.long;
+      within = λ i h. omega (arith, own i h);
+      apart = λ i j h. sym (own i h.0) ∙ h.2 ∙ own j h.1;
+    }
+
+pub returns : goal.returns
+returns c = λ i h. let at = c.from_fn-to.ensures.items.at i 0 h in search rules
