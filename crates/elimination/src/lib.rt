@@ -21,9 +21,9 @@ use wiring::{Link, Rung};
 fn place(table: &mut Table, slots: &mut Slots, links: &[Link])
     requires most { length links.now ≤ 64 }
     requires loopless { Loopless links.now }
-    requires table { table.old.len ≡ 0 }
+    requires table { length table.old.nodes.items ≡ 0 }
     requires slots { slots.old ≡ replicate 64 None }
-    ensures { Placed (length links.now) links.now slots.new table.new.nodes table.new.len }
+    ensures { Placed (length links.now) links.now slots.new table.new.nodes.items }
 {
     for (i, link) in links.iter().enumerate() {
         let at = table.push(Node::Link(i as u8));
@@ -38,7 +38,7 @@ fn place(table: &mut Table, slots: &mut Slots, links: &[Link])
 /// Finds the wiring that reads a rung, and leaves it in the table: the position of its root, or `None` if the
 /// rung is not series-parallel.
 pub fn decompose(rung: &Rung, table: &mut Table) -> Option<u8>
-    ensures { Answer (circuit rung.now) table.new.nodes table.new.len result }
+    ensures { Answer (circuit rung.now) table.new.nodes.items result }
 {
     table.clear();
     let mut slots = [None; 64];

@@ -1,5 +1,5 @@
 //! The elimination of one joint after the other.
-ghost use Rattle.std.specs.Prelude.{◌≡◌, ◌+◌, ◌≤◌, ◌≢◌};
+ghost use Rattle.std.specs.Prelude.{◌≡◌, ◌+◌, ◌≤◌, ◌≢◌, length};
 ghost use Rattle.std.specs.List.{list_all};
 ghost use Rattle.wiring.specs.Elimination.{Eligible};
 ghost use Rattle.elimination.specs.Slots.{edges, live, Stands};
@@ -44,11 +44,11 @@ fn all_gone(gone: &[bool]) -> bool
 
 /// Puts one edge in the place of a joint and of all edges at it.
 fn eliminate(table: &mut Table, slots: &mut Slots, passage: Passage)
-    requires stands { Stands table.old.nodes table.old.len slots.old }
-    requires room { table.old.len + live slots.old ≤ 128 }
-    requires may { Eligible (edges table.old.nodes slots.old) passage.joint passage.from passage.to }
+    requires stands { Stands table.old.nodes.items slots.old }
+    requires room { length table.old.nodes.items + live slots.old ≤ 128 }
+    requires may { Eligible (edges table.old.nodes.items slots.old) passage.joint passage.from passage.to }
     requires apart { passage.from ≢ passage.to }
-    ensures { Eliminated passage.joint passage.from passage.to slots.old table.old.nodes table.old.len slots.new table.new.nodes table.new.len }
+    ensures { Eliminated passage.joint passage.from passage.to slots.old table.old.nodes.items slots.new table.new.nodes.items }
 {
     let group = merge(table, slots, passage);
     clear(slots, passage.joint);
@@ -64,9 +64,9 @@ fn eliminate(table: &mut Table, slots: &mut Slots, passage: Passage)
 pub(crate) fn reduce(table: &mut Table, slots: &mut Slots, joints: usize) -> bool
     requires two { 2 ≤ joints }
     requires most { joints ≤ 32 }
-    requires stands { Stands table.old.nodes table.old.len slots.old }
-    requires room { table.old.len + live slots.old ≤ 128 }
-    ensures { Outcome joints (table.old.len + live slots.old) (edges table.old.nodes slots.old) slots.new table.new.nodes table.new.len result }
+    requires stands { Stands table.old.nodes.items slots.old }
+    requires room { length table.old.nodes.items + live slots.old ≤ 128 }
+    ensures { Outcome joints (length table.old.nodes.items + live slots.old) (edges table.old.nodes.items slots.old) slots.new table.new.nodes.items result }
 {
     let mut gone = [false; 32];
     while let Some(next) = pick(slots, &gone, joints) {

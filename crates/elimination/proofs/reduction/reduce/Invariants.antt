@@ -1,10 +1,10 @@
-use Rattle.std.proofs.Common.{◌+◌}
+use Rattle.std.proofs.Common.{◌+◌, length}
 use Rattle.elimination.specs.Slots.{edges, live}
 use Rattle.elimination.specs.Reduction.{Work, left_of}
 use Rattle.elimination.proofs.reduction.reduce.Given as goal
 
 abbrev pub invariant-loop-next : goal.invariant-loop-next
-invariant-loop-next l = Work l.joints (l.initial.table.len + live l.initial.slots) (edges l.initial.table.nodes l.initial.slots) l.slots l.table.nodes l.table.len l.gone
+invariant-loop-next l = Work l.joints (length l.initial.table.nodes.items + live l.initial.slots) (edges l.initial.table.nodes.items l.initial.slots) l.slots l.table.nodes.items l.gone
 
 abbrev pub decreases-loop-next : goal.decreases-loop-next
 decreases-loop-next l = left_of l.gone
