@@ -62,6 +62,9 @@ work_more joints total A l ns gone p l' ns' most W P D =
       long = length-set gone p.joint true ∙ long;
     }
 
+pub work_at : {joints joints' total : ℕ} {A : List Edge} {l : List (Option Active)} {ns : List Node} {gone : List Bool} → joints ≡ joints' → Work joints total A l ns gone → Work joints' total A l ns gone
+work_at {total = total} {A = A} {l = l} {ns = ns} {gone = gone} e W = subst (λ j. Work j total A l ns gone) e W
+
 -- an edge from a joint to itself: there is no reading
 loop_refused : (joints : ℕ) (A B : List Edge) (xs : List ℕ) (e : Edge) → Reaches 0 (joints - 1) A xs B → In e B → e.from ≡ e.to → NoReading joints A
 loop_refused joints A B xs e r i h g j range S w R =
