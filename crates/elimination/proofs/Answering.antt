@@ -23,26 +23,26 @@ use Rattle.elimination.proofs.Merging.{a_group}
 use Rattle.elimination.proofs.Reducing.{straight-all}
 
 -- a group has edges, and no group has none
-some_of : (j : ℕ) (ns : List Node) (len : ℕ) (L : List Edge) (h : Group) → Holds j ns len L (Some h) → (e : Edge) × In e L
-some_of j ns len [] h u = absurd u
-some_of j ns len (e ∷ L) h u = (e, inl refl)
+some_of : (j : ℕ) (ns : List Node) (L : List Edge) (h : Group) → Holds j ns L (Some h) → (e : Edge) × In e L
+some_of j ns [] h u = absurd u
+some_of j ns (e ∷ L) h u = (e, inl refl)
 
-none_of : (j : ℕ) (ns : List Node) (len : ℕ) (L : List Edge) → Holds j ns len L None → (e : Edge) → In e L → ⊥
-none_of j ns len [] u e i = i
-none_of j ns len (f ∷ L) u e i = u
+none_of : (j : ℕ) (ns : List Node) (L : List Edge) → Holds j ns L None → (e : Edge) → In e L → ⊥
+none_of j ns [] u e i = i
+none_of j ns (f ∷ L) u e i = u
 
 module _ (c : Circuit) (two : 2 ≤ c.joints) (range : InRange c) where
   starts_so : (A : List Edge) → A ≡ first-edges c (length c.links) → Starts c A
   starts_so A e = subst (λ z. Starts c z) (sym e) (tidy_start c).1
 
-  pub answer_found : (total : ℕ) (A : List Edge) (l : List (Option Active)) (ns : List Node) (len : ℕ) (ns' : List Node) (len' : ℕ) (h : Group) → A ≡ first-edges c (length c.links) → total ≡ length c.links + length c.links → Reduced c.joints total A l ns len → Gathered 0 (map (touch Leaving 0) l) ns len ns' len' (Some h) → Answer c ns' len' (Some h.at)
-  answer_found total A l ns len ns' len' h e n D G =
+  pub answer_found : (total : ℕ) (A : List Edge) (l : List (Option Active)) (ns : List Node) (ns' : List Node) (h : Group) → A ≡ first-edges c (length c.links) → total ≡ length c.links + length c.links → Reduced c.joints total A l ns → Gathered 0 (map (touch Leaving 0) l) ns ns' (Some h) → Answer c ns' (Some h.at)
+  answer_found total A l ns ns' h e n D G =
       let B = edges ns l in
       let st = straight-all (c.joints - 1) ns l D.direct in
-      let H : Holds 0 ns' len' B (Some h) = subst (λ z. Holds 0 ns' len' (edges ns z) (Some h)) st.1 G.group in
-      let K = a_group 0 ns' len' B h H in
-      let s = some_of 0 ns' len' B h H in
-      let F = found c A B B D.xs two (starts_so A e) D.reached (tidy_end B 0 (c.joints - 1) s.0 (rising_edges ns len l D.stands) s.1 st.0) D.all in
+      let H : Holds 0 ns' B (Some h) = subst (λ z. Holds 0 ns' (edges ns z) (Some h)) st.1 G.group in
+      let K = a_group 0 ns' B h H in
+      let s = some_of 0 ns' B h H in
+      let F = found c A B B D.xs two (starts_so A e) D.reached (tidy_end B 0 (c.joints - 1) s.0 (rising_edges ns l D.stands) s.1 st.0) D.all in
       let R : Reads c (tree_at ns' h.at) = subst (λ t. Reads c t) (sym K.tree) F.0 in
       let a = G.room in let b = D.room in let m = ap live st.1 in
       record {
@@ -53,15 +53,15 @@ module _ (c : Circuit) (two : 2 ≤ c.joints) (range : InRange c) where
         leaf_count = leaf_count c (tree_at ns' h.at) R;
       }
 
-  pub answer_none : (total : ℕ) (A : List Edge) (l : List (Option Active)) (ns : List Node) (len : ℕ) (ns' : List Node) (len' : ℕ) → A ≡ first-edges c (length c.links) → Reduced c.joints total A l ns len → Gathered 0 (map (touch Leaving 0) l) ns len ns' len' None → Answer c ns' len' None
-  answer_none total A l ns len ns' len' e D G r =
+  pub answer_none : (total : ℕ) (A : List Edge) (l : List (Option Active)) (ns : List Node) (ns' : List Node) → A ≡ first-edges c (length c.links) → Reduced c.joints total A l ns → Gathered 0 (map (touch Leaving 0) l) ns ns' None → Answer c ns' None
+  answer_none total A l ns ns' e D G r =
       let B = edges ns l in
       let st = straight-all (c.joints - 1) ns l D.direct in
-      let n = none_of 0 ns' len' B (subst (λ z. Holds 0 ns' len' (edges ns z) None) st.1 G.group) in
+      let n = none_of 0 ns' B (subst (λ z. Holds 0 ns' (edges ns z) None) st.1 G.group) in
       refused c A B D.xs range (starts_so A e) D.reached (λ x u w a b f d E. n E.some_in.0 E.some_in.1) (inr (inr n)) r.0 r.1
 
-  pub answer_refused : (A : List Edge) (ns : List Node) (len : ℕ) → A ≡ first-edges c (length c.links) → NoReading c.joints A → Answer c ns len None
-  answer_refused A ns len e N r = N c refl range (starts_so A e) r.0 r.1
+  pub answer_refused : (A : List Edge) (ns : List Node) → A ≡ first-edges c (length c.links) → NoReading c.joints A → Answer c ns None
+  answer_refused A ns e N r = N c refl range (starts_so A e) r.0 r.1
 
 -- the limits of a drawn rung put its links between its joints
 pub range_drawn : (c : Circuit) → linked c.joints c.links ≡ true → InRange c

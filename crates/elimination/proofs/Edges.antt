@@ -61,8 +61,8 @@ rising_from ns (Some b ∷ l) j f = (
   rising_from ns l (suc j) (λ k a h. let p = f (suc k) a h in omega arith),
 )
 
-pub rising_edges : (ns : List Node) (len : ℕ) (l : List (Option Active)) → Stands ns len l → Rising (edges ns l)
-rising_edges ns len l S = rising_from ns l 0 (λ k a h. let p = (S k a h).low in omega arith)
+pub rising_edges : (ns : List Node) (l : List (Option Active)) → Stands ns l → Rising (edges ns l)
+rising_edges ns l S = rising_from ns l 0 (λ k a h. let p = (S k a h).low in omega arith)
 
 -- the slots that touch a joint
 get_or-touch : (s : Side) (x : ℕ) (l : List (Option Active)) (k : ℕ) → get_or (map (touch s x) l) k None ≡ touch s x (get_or l k None)
@@ -104,8 +104,8 @@ in_touch s x ns l e = (
       (edges_in ns (map (touch s x) l) m.slot m.active (get_or-touch s x l m.slot ∙ touch-back s x (get_or l m.slot None) m.active m.filled n)),
 )
 
-pub rising_touch : (s : Side) (x : ℕ) (ns : List Node) (len : ℕ) (l : List (Option Active)) → Stands ns len l → Rising (edges ns (map (touch s x) l))
-rising_touch s x ns len l S = rising_from ns (map (touch s x) l) 0 (λ k a h. let p = (S k a (touch_some s x (get_or l k None) a (sym (get_or-touch s x l k) ∙ h))).low in omega arith)
+pub rising_touch : (s : Side) (x : ℕ) (ns : List Node) (l : List (Option Active)) → Stands ns l → Rising (edges ns (map (touch s x) l))
+rising_touch s x ns l S = rising_from ns (map (touch s x) l) 0 (λ k a h. let p = (S k a (touch_some s x (get_or l k None) a (sym (get_or-touch s x l k) ∙ h))).low in omega arith)
 
 -- the slots that do not touch it
 pub get_or-spared : (x : ℕ) (l : List (Option Active)) (k : ℕ) → get_or (map (spared x) l) k None ≡ spared x (get_or l k None)
@@ -169,8 +169,8 @@ live_split x (o ∷ l) f =
     let g = live_split x l (λ k. f (suc k)) in
     omega arith
 
-pub live_parts : (x : ℕ) (ns : List Node) (len : ℕ) (l : List (Option Active)) → Stands ns len l → live l ≡ live (map (touch Entering x) l) + live (map (touch Leaving x) l) + live (map (spared x) l)
-live_parts x ns len l S = live_split x l (λ k a h. (S k a h).apart)
+pub live_parts : (x : ℕ) (ns : List Node) (l : List (Option Active)) → Stands ns l → live l ≡ live (map (touch Entering x) l) + live (map (touch Leaving x) l) + live (map (spared x) l)
+live_parts x ns l S = live_split x l (λ k a h. (S k a h).apart)
 
 pub live-set : (l : List (Option Active)) (k : ℕ) (a : Active) → k < length l → get_or l k None ≡ None → live (set l k (Some a)) ≡ suc (live l)
 live-set [] k a h e = absurd (omega arith)
@@ -182,21 +182,21 @@ live-set (Some b ∷ l) (suc k) a h e = ap suc (live-set l k a (omega arith) e)
 abbrev pub edge-between : ℕ → ℕ → Wiring ℕ → Edge
 edge-between u w t = record { from = u; to = w; tree = t }
 
-pub edge-grown : (ns : List Node) (len : ℕ) (ns' : List Node) (len' : ℕ) → Grown ns len ns' len' → (a : Active) → a.at < len → edge ns' a ≡ edge ns a
-edge-grown ns len ns' len' G a h = ap (edge-between a.from a.to) (G.same a.at h)
+pub edge-grown : (ns : List Node) (ns' : List Node) → Grown ns ns' → (a : Active) → a.at < length ns → edge ns' a ≡ edge ns a
+edge-grown ns ns' G a h = ap (edge-between a.from a.to) (G.same a.at h)
 
 -- what stands in a table stands in one that has grown
-pub stands_grown : (ns : List Node) (len : ℕ) (ns' : List Node) (len' : ℕ) (l : List (Option Active)) → Grown ns len ns' len' → Stands ns len l → Stands ns' len' l
-stands_grown ns len ns' len' l G S k a h =
+pub stands_grown : (ns : List Node) (ns' : List Node) (l : List (Option Active)) → Grown ns ns' → Stands ns l → Stands ns' l
+stands_grown ns ns' l G S k a h =
     let f = S k a h in
     let p = f.at in let m = G.more in
     record { at = omega arith; low = ap (λ t. (text link_text t).low) (G.same a.at p) ∙ f.low; apart = f.apart }
 
-pub edges-grown : (ns : List Node) (len : ℕ) (ns' : List Node) (len' : ℕ) → Grown ns len ns' len' → (l : List (Option Active)) → ((k : ℕ) (a : Active) → get_or l k None ≡ Some a → a.at < len) → edges ns' l ≡ edges ns l
-edges-grown ns len ns' len' G [] f = refl
-edges-grown ns len ns' len' G (None ∷ l) f = edges-grown ns len ns' len' G l (λ k. f (suc k))
-edges-grown ns len ns' len' G (Some a ∷ l) f = ap₂ ◌∷◌ (edge-grown ns len ns' len' G a (f zero a refl)) (edges-grown ns len ns' len' G l (λ k. f (suc k)))
+pub edges-grown : (ns : List Node) (ns' : List Node) → Grown ns ns' → (l : List (Option Active)) → ((k : ℕ) (a : Active) → get_or l k None ≡ Some a → a.at < length ns) → edges ns' l ≡ edges ns l
+edges-grown ns ns' G [] f = refl
+edges-grown ns ns' G (None ∷ l) f = edges-grown ns ns' G l (λ k. f (suc k))
+edges-grown ns ns' G (Some a ∷ l) f = ap₂ ◌∷◌ (edge-grown ns ns' G a (f zero a refl)) (edges-grown ns ns' G l (λ k. f (suc k)))
 
-pub touch-grown : (s : Side) (x : ℕ) (ns : List Node) (len : ℕ) (ns' : List Node) (len' : ℕ) (l : List (Option Active)) → Grown ns len ns' len' → Stands ns len l → edges ns' (map (touch s x) l) ≡ edges ns (map (touch s x) l)
-touch-grown s x ns len ns' len' l G S =
-    edges-grown ns len ns' len' G (map (touch s x) l) (λ k a h. (S k a (touch_some s x (get_or l k None) a (sym (get_or-touch s x l k) ∙ h))).at)
+pub touch-grown : (s : Side) (x : ℕ) (ns : List Node) (ns' : List Node) (l : List (Option Active)) → Grown ns ns' → Stands ns l → edges ns' (map (touch s x) l) ≡ edges ns (map (touch s x) l)
+touch-grown s x ns ns' l G S =
+    edges-grown ns ns' G (map (touch s x) l) (λ k a h. (S k a (touch_some s x (get_or l k None) a (sym (get_or-touch s x l k) ∙ h))).at)

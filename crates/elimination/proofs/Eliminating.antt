@@ -16,7 +16,7 @@ use Rattle.elimination.specs.Reduction.{Eliminated}
 use Rattle.elimination.specs.Slots.{edge, edges, live, touch, spared, Fine, Stands}
 use Rattle.elimination.proofs.Edges.{some_same, in_edges, edges_in, rising_edges, in_touch, rising_touch, get_or-spared, Spared, spared_some, spared-back, live_parts, live-set, edge-between, edge-grown, stands_grown}
 
-module _ (x u w : ℕ) (ns : List Node) (len : ℕ) (l : List (Option Active)) (S : Stands ns len l) (E : Eligible (edges ns l) x u w) where
+module _ (x u w : ℕ) (ns : List Node) (l : List (Option Active)) (S : Stands ns l) (E : Eligible (edges ns l) x u w) where
   into_list : List Edge
   into_list = edges ns (map (touch Entering x) l)
 
@@ -28,17 +28,17 @@ module _ (x u w : ℕ) (ns : List Node) (len : ℕ) (l : List (Option Active)) (
   unfolding into_list out_list
   stays e i f t =
       let A = edges ns l in
-      let R = rising_edges ns len l S in
+      let R = rising_edges ns l S in
       let T = (tidy_step A x u w R E).0 in
       let p : T.into ≡ into_list =
-      rising_same T.into into_list T.into_rises (rising_touch Entering x ns len l S)
+      rising_same T.into into_list T.into_rises (rising_touch Entering x ns l S)
       (λ e i. (in_touch Entering x ns l e).1 ((T.into_are e).0 i)) (λ e i. (T.into_are e).1 ((in_touch Entering x ns l e).0 i)) in
       let q : T.out ≡ out_list =
-      rising_same T.out out_list T.out_rises (rising_touch Leaving x ns len l S)
+      rising_same T.out out_list T.out_rises (rising_touch Leaving x ns l S)
       (λ e i. (in_touch Leaving x ns l e).1 ((T.out_are e).0 i)) (λ e i. (T.out_are e).1 ((in_touch Leaving x ns l e).0 i)) in
       subst (λ z. low_of e ≢ low_of z) (ap₂ (combined u w) p q) (stays_apart A (eliminate x u w A) x u w (rising_apart A R) T e i f t)
 
-  module _ (ns' : List Node) (len' : ℕ) (h : Group) (M : Merged x l ns len ns' len' h) (long : length l ≡ 64) (ne : u ≢ w) where
+  module _ (ns' : List Node) (h : Group) (M : Merged x l ns ns' h) (long : length l ≡ 64) (ne : u ≢ w) where
     new : Active
     new = record { from = u; to = w; at = h.at }
 
@@ -77,7 +77,7 @@ module _ (x u w : ℕ) (ns : List Node) (len : ℕ) (l : List (Option Active)) (
                 inl (m.is ∙ ap (edge ns') (sym q) ∙ new_edge)
             | no p ↦
                 let s = spared_some x (get_or l m.slot None) m.active (sym (elsewhere m.slot p) ∙ m.filled) in
-                let q : e ≡ edge ns m.active = m.is ∙ edge-grown ns len ns' len' M.grown m.active (S m.slot m.active s.same).at in
+                let q : e ≡ edge ns m.active = m.is ∙ edge-grown ns ns' M.grown m.active (S m.slot m.active s.same).at in
                 inr (
                   subst (λ z. In z (edges ns l)) (sym q) (edges_in ns l m.slot m.active s.same),
                   (λ r. s.not_from (sym (ap (λ z. z.from) q) ∙ r)),
@@ -91,29 +91,29 @@ module _ (x u w : ℕ) (ns : List Node) (len : ℕ) (l : List (Option Active)) (
           let f : m.active.from ≢ x = λ r. p.1 (ap (λ z. z.from) m.is ∙ r) in
           let t : m.active.to ≢ x = λ r. p.2 (ap (λ z. z.to) m.is ∙ r) in
           let n = free m.slot m.active m.filled f t in
-          let q = edge-grown ns len ns' len' M.grown m.active (S m.slot m.active m.filled).at in
+          let q = edge-grown ns ns' M.grown m.active (S m.slot m.active m.filled).at in
           subst (λ z. In z (edges ns' after)) (q ∙ sym m.is)
           (edges_in ns' after m.slot m.active (elsewhere m.slot n ∙ spared-back x (get_or l m.slot None) m.active m.filled f t)))
           c,
     )
 
-    stood : Stands ns' len' after
+    stood : Stands ns' after
     unfolding new
     stood k a e =
         elim (ℕ_discrete k h.low) [
           | yes p ↦
               let q : new ≡ a = some_same (sym at_new ∙ sym (ap (λ k. get_or after k None) p) ∙ e) in
-              subst (λ z. Fine ns' len' k z) q (record { at = M.at; low = M.low ∙ sym p; apart = ne })
+              subst (λ z. Fine ns' k z) q (record { at = M.at; low = M.low ∙ sym p; apart = ne })
           | no p ↦
               let s = spared_some x (get_or l k None) a (sym (elsewhere k p) ∙ e) in
-              stands_grown ns len ns' len' l M.grown S k a s.same
+              stands_grown ns ns' l M.grown S k a s.same
         ]
 
-    counted : len' + live after ≡ len + live l
+    counted : length ns' + live after ≡ length ns + live l
     unfolding after
     counted =
         let a = live-set (map (spared x) l) h.low new fits (get_or-spared x l h.low ∙ empty (spared x (get_or l h.low None)) (λ a. spared_some x (get_or l h.low None) a)) in
-        let b = live_parts x ns len l S in
+        let b = live_parts x ns l S in
         let c = M.room in
         omega arith
       where
@@ -127,13 +127,13 @@ module _ (x u w : ℕ) (ns : List Node) (len : ℕ) (l : List (Option Active)) (
       may = E;
       into = into_list;
       out = out_list;
-      into_rises = rising_touch Entering x ns len l S;
-      out_rises = rising_touch Leaving x ns len l S;
+      into_rises = rising_touch Entering x ns l S;
+      out_rises = rising_touch Leaving x ns l S;
       into_are = in_touch Entering x ns l;
       out_are = in_touch Leaving x ns l;
       left = left;
     }
 
-    pub eliminated : (m : List (Option Active)) → m ≡ map (spared x) l → Eliminated x u w l ns len (set m h.low (Some (record { from = u; to = w; at = h.at }))) ns' len'
+    pub eliminated : (m : List (Option Active)) → m ≡ map (spared x) l → Eliminated x u w l ns (set m h.low (Some (record { from = u; to = w; at = h.at }))) ns'
     unfolding after new
-    eliminated m e = subst (λ z. Eliminated x u w l ns len (set z h.low (Some (record { from = u; to = w; at = h.at }))) ns' len') (sym e) (record { step = stepped; stands = stood; room = counted })
+    eliminated m e = subst (λ z. Eliminated x u w l ns (set z h.low (Some (record { from = u; to = w; at = h.at }))) ns') (sym e) (record { step = stepped; stands = stood; room = counted })

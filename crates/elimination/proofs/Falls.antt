@@ -1,8 +1,9 @@
 -- In a table whose children lie lower, a position has the wiring of its node.
-use Rattle.std.proofs.Common.{◌≡◌, ℕ, zero, suc, ◌+◌, ◌<◌, ◌≤◌, Bool, true, false, ◌&&◌, ◌≢◌, List, [], ◌∷◌, length, get_or, set, sym, refl, ap, ◌∙◌, subst, add-zero, zero-add, arith}
+use Rattle.std.proofs.Common.{◌≡◌, ℕ, zero, suc, ◌+◌, ◌<◌, Bool, true, false, ◌&&◌, List, [], ◌∷◌, ◌++◌, length, get_or, sym, refl, ap, ◌∙◌, subst, add-zero, zero-add, arith}
 use Rattle.std.proofs.lemmas.Bool.Decides.{nat_tests}
-use Rattle.std.proofs.lemmas.List.{get_or-set_same, get_or-set_other, get_or_past}
-use Rattle.wiring.specs.Wiring.{Wiring, link}
+use Rattle.std.proofs.lemmas.List.{get_or_append_left}
+use Rattle.std.proofs.Math.Seq.{get_or-append_seam}
+use Rattle.wiring.specs.Wiring.{Wiring}
 use Rattle.elimination.specs.declared.table.Node.{Node}
 use Rattle.elimination.specs.declared.table.Node.TheVariants.{Link, Series, Parallel}
 use Rattle.elimination.specs.Trees.{below, Under, lower, formed, tree_of, tree_at}
@@ -62,41 +63,35 @@ under i (Parallel a b) e = (grind (arith, nat_tests), grind (arith, nat_tests))
 pub under_at : (ns : List Node) (i : ℕ) → lower 0 ns ≡ true → Under i (get_or ns i (Link 0))
 under_at ns i e = under i (get_or ns i (Link 0)) (below_at ns i e)
 
--- past the end
-pub tree_past : (ns : List Node) → lower 0 ns ≡ true → (i : ℕ) → length ns ≤ i → tree_at ns i ≡ link 0
-tree_past ns e i h = tree_is ns e i ∙ ap (formed (tree_at ns)) (get_or_past ns i (Link 0) h)
-
 -- one more node
 made : (i : ℕ) (n : Node) → Under i n → below i n ≡ true
 made i (Link n) u = refl
 made i (Series a b) u = grind (arith, nat_tests)
 made i (Parallel a b) u = grind (arith, nat_tests)
 
-lower-set : (ns : List Node) (j i : ℕ) (n : Node) → lower j ns ≡ true → below (j + i) n ≡ true → lower j (set ns i n) ≡ true
-lower-set [] j i n e h = refl
-lower-set (m ∷ ns) j zero n e h = both _ _ (subst (λ k. below k n ≡ true) (add-zero j) h) (and_right _ _ e)
-lower-set (m ∷ ns) j (suc i) n e h =
-    let q : j + suc i ≡ suc j + i = omega arith in
-    both _ _ (and_left _ _ e) (lower-set ns (suc j) i n (and_right _ _ e) (subst (λ k. below k n ≡ true) q h))
+lower-push : (ns : List Node) (j : ℕ) (n : Node) → lower j ns ≡ true → below (j + length ns) n ≡ true → lower j (ns ++ (n ∷ [])) ≡ true
+lower-push [] j n e h = both _ _ (subst (λ k. below k n ≡ true) (add-zero j) h) refl
+lower-push (m ∷ ns) j n e h =
+    let q : j + length (m ∷ ns) ≡ suc j + length ns = omega arith in
+    both _ _ (and_left _ _ e) (lower-push ns (suc j) n (and_right _ _ e) (subst (λ k. below k n ≡ true) q h))
 
-pub falls_more : (ns : List Node) (i : ℕ) (n : Node) → lower 0 ns ≡ true → Under i n → lower 0 (set ns i n) ≡ true
-falls_more ns i n e u = lower-set ns 0 i n e (subst (λ k. below k n ≡ true) (sym (zero-add i)) (made i n u))
+pub falls_more : (ns : List Node) (n : Node) → lower 0 ns ≡ true → Under (length ns) n → lower 0 (ns ++ (n ∷ [])) ≡ true
+falls_more ns n e u = lower-push ns 0 n e (subst (λ k. below k n ≡ true) (sym (zero-add (length ns))) (made (length ns) n u))
 
-same-below : (ns : List Node) (len : ℕ) (n : Node) → lower 0 ns ≡ true → (k i : ℕ) → i < len → tree_of k (set ns len n) i ≡ tree_of k ns i
+same-below : (ns : List Node) (n : Node) → lower 0 ns ≡ true → (k i : ℕ) → i < length ns → tree_of k (ns ++ (n ∷ [])) i ≡ tree_of k ns i
 unfolding tree_of
-same-below ns len n e zero i h = refl
-same-below ns len n e (suc k) i h =
-    let ne : i ≢ len = omega arith in
-    ap (formed (tree_of k (set ns len n))) (get_or-set_other ns len i n (Link 0) ne)
-    ∙ same-formed (tree_of k (set ns len n)) (tree_of k ns) i (get_or ns i (Link 0)) (below_at ns i e) (λ j l. same-below ns len n e k j (omega arith))
+same-below ns n e zero i h = refl
+same-below ns n e (suc k) i h =
+    ap (formed (tree_of k (ns ++ (n ∷ [])))) (get_or_append_left ns (n ∷ []) (Link 0) i h)
+    ∙ same-formed (tree_of k (ns ++ (n ∷ []))) (tree_of k ns) i (get_or ns i (Link 0)) (below_at ns i e) (λ j l. same-below ns n e k j (omega arith))
 
 -- the positions before it keep their wirings, and it has its own
-pub tree_same : (ns : List Node) (len : ℕ) (n : Node) → lower 0 ns ≡ true → (i : ℕ) → i < len → tree_at (set ns len n) i ≡ tree_at ns i
+pub tree_same : (ns : List Node) (n : Node) → lower 0 ns ≡ true → (i : ℕ) → i < length ns → tree_at (ns ++ (n ∷ [])) i ≡ tree_at ns i
 unfolding tree_at
-tree_same ns len n e i h = same-below ns len n e (suc i) i h
+tree_same ns n e i h = same-below ns n e (suc i) i h
 
-pub tree_new : (ns : List Node) (len : ℕ) (n : Node) → lower 0 ns ≡ true → Under len n → len < length ns → tree_at (set ns len n) len ≡ formed (tree_at ns) n
-tree_new ns len n e u h =
-    tree_is (set ns len n) (falls_more ns len n e u) len
-    ∙ ap (formed (tree_at (set ns len n))) (get_or-set_same ns len n (Link 0) h)
-    ∙ same-formed (tree_at (set ns len n)) (tree_at ns) len n (made len n u) (λ k l. tree_same ns len n e k l)
+pub tree_new : (ns : List Node) (n : Node) → lower 0 ns ≡ true → Under (length ns) n → tree_at (ns ++ (n ∷ [])) (length ns) ≡ formed (tree_at ns) n
+tree_new ns n e u =
+    tree_is (ns ++ (n ∷ [])) (falls_more ns n e u) (length ns)
+    ∙ ap (formed (tree_at (ns ++ (n ∷ [])))) (get_or-append_seam ns n [] (Link 0))
+    ∙ same-formed (tree_at (ns ++ (n ∷ []))) (tree_at ns) (length ns) n (made (length ns) n u) (λ k l. tree_same ns n e k l)

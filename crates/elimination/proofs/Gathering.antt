@@ -15,20 +15,20 @@ use Rattle.elimination.specs.Trees.{tree_at}
 use Rattle.elimination.proofs.Edges.{touch_some}
 
 -- what a table that grows keeps
-pub grown-same : (ns : List Node) (len : ℕ) → Grown ns len ns len
-grown-same ns len = record { more = omega arith; same = λ i h. refl }
+pub grown-same : (ns : List Node) → Grown ns ns
+grown-same ns = record { more = omega arith; same = λ i h. refl }
 
-pub grown_on : {ns : List Node} {len : ℕ} {ns1 : List Node} {len1 : ℕ} {ns2 : List Node} {len2 : ℕ} → Grown ns len ns1 len1 → Grown ns1 len1 ns2 len2 → Grown ns len ns2 len2
+pub grown_on : {ns : List Node} {ns1 : List Node} {ns2 : List Node} → Grown ns ns1 → Grown ns1 ns2 → Grown ns ns2
 grown_on p q = record { more = (let a = p.more in let b = q.more in omega arith); same = λ i h. q.same i (let a = p.more in omega arith) ∙ p.same i h }
 
-low_grown : {ns : List Node} {len : ℕ} {ns' : List Node} {len' : ℕ} → Grown ns len ns' len' → (i : ℕ) → i < len → low_at ns' i ≡ low_at ns i
+low_grown : {ns : List Node} {ns' : List Node} → Grown ns ns' → (i : ℕ) → i < length ns → low_at ns' i ≡ low_at ns i
 low_grown p i h = ap (λ t. (text link_text t).low) (p.same i h)
 
-holds_grown : (j j' : ℕ) (ns : List Node) (len : ℕ) (ns' : List Node) (len' : ℕ) → Grown ns len ns' len' → j' ≤ j → (L : List Edge) (r : Option Group) → Holds j ns len L r → Holds j' ns' len' L r
-holds_grown j j' ns len ns' len' p h [] None u = tt
-holds_grown j j' ns len ns' len' p h [] (Some g) u = u
-holds_grown j j' ns len ns' len' p h (e ∷ L) None u = u
-holds_grown j j' ns len ns' len' p h (e ∷ L) (Some g) u =
+holds_grown : (j j' : ℕ) (ns : List Node) (ns' : List Node) → Grown ns ns' → j' ≤ j → (L : List Edge) (r : Option Group) → Holds j ns L r → Holds j' ns' L r
+holds_grown j j' ns ns' p h [] None u = tt
+holds_grown j j' ns ns' p h [] (Some g) u = u
+holds_grown j j' ns ns' p h (e ∷ L) None u = u
+holds_grown j j' ns ns' p h (e ∷ L) (Some g) u =
     let m = p.more in let a = u.0 in let b = u.3 in
     (omega arith, p.same g.at a ∙ u.1, low_grown p g.at a ∙ u.2, omega arith, u.4)
 
@@ -42,62 +42,62 @@ unfolding in_series
 low_series a b = refl
 
 -- the first edge of a group, and one edge more
-holds_first : (i : ℕ) (ns : List Node) (len : ℕ) (ns1 : List Node) (len1 : ℕ) (ns2 : List Node) (len2 : ℕ) (a : Active) (L : List Edge) → Fine ns len i a → i < 64 → Grown ns len ns2 len2 → Holds (i + 1) ns1 len1 L None → Holds i ns2 len2 (edge ns a ∷ L) (Some (record { at = a.at; low = i }))
-holds_first i ns len ns1 len1 ns2 len2 a [] f h p u =
+holds_first : (i : ℕ) (ns : List Node) (ns1 : List Node) (ns2 : List Node) (a : Active) (L : List Edge) → Fine ns i a → i < 64 → Grown ns ns2 → Holds (i + 1) ns1 L None → Holds i ns2 (edge ns a ∷ L) (Some (record { at = a.at; low = i }))
+holds_first i ns ns1 ns2 a [] f h p u =
     let k = f.at in let m = p.more in
     (omega arith, p.same a.at k, low_grown p a.at k ∙ f.low, omega arith, h)
-holds_first i ns len ns1 len1 ns2 len2 a (e ∷ L) f h p u = absurd u
+holds_first i ns ns1 ns2 a (e ∷ L) f h p u = absurd u
 
-holds_more : (i : ℕ) (ns : List Node) (len : ℕ) (ns1 : List Node) (len1 : ℕ) (ns2 : List Node) (len2 : ℕ) (a : Active) (L : List Edge) (h : Group) → Fine ns len i a → i < 64 → Grown ns len ns1 len1 → len2 ≡ len1 + 1 → tree_at ns2 len1 ≡ parallel (tree_at ns1 a.at) (tree_at ns1 h.at) → Holds (i + 1) ns1 len1 L (Some h) → Holds i ns2 len2 (edge ns a ∷ L) (Some (record { at = len1; low = i }))
-holds_more i ns len ns1 len1 ns2 len2 a [] h f l p n t u = absurd u
-holds_more i ns len ns1 len1 ns2 len2 a (e ∷ L) h f l p n t u =
+holds_more : (i : ℕ) (ns : List Node) (ns1 : List Node) (ns2 : List Node) (a : Active) (L : List Edge) (h : Group) → Fine ns i a → i < 64 → Grown ns ns1 → length ns2 ≡ length ns1 + 1 → tree_at ns2 (length ns1) ≡ parallel (tree_at ns1 a.at) (tree_at ns1 h.at) → Holds (i + 1) ns1 L (Some h) → Holds i ns2 (edge ns a ∷ L) (Some (record { at = length ns1; low = i }))
+holds_more i ns ns1 ns2 a [] h f l p n t u = absurd u
+holds_more i ns ns1 ns2 a (e ∷ L) h f l p n t u =
     let k = f.at in
     let low1 : low_at ns1 a.at ≡ i = low_grown p a.at k ∙ f.low in
     let low2 : low_at ns1 h.at ≡ h.low = u.2 in
     let up = u.3 in
-    let low3 : low_at ns2 len1 ≡ min (low_at ns1 a.at) (low_at ns1 h.at) = ap (λ z. (text link_text z).low) t ∙ low_parallel (tree_at ns1 a.at) (tree_at ns1 h.at) in
+    let low3 : low_at ns2 (length ns1) ≡ min (low_at ns1 a.at) (low_at ns1 h.at) = ap (λ z. (text link_text z).low) t ∙ low_parallel (tree_at ns1 a.at) (tree_at ns1 h.at) in
     (omega arith, t ∙ ap₂ parallel (p.same a.at k) u.1, omega arith, omega arith, l)
 
 -- one slot more
-pub gathered_more : (i : ℕ) (o : Option Active) (l : List (Option Active)) (ns : List Node) (len : ℕ) (ns1 : List Node) (len1 : ℕ) (ns2 : List Node) (len2 : ℕ) (g r : Option Group) → ((a : Active) → o ≡ Some a → Fine ns len i a) → i < 64 → Gathered (i + 1) l ns len ns1 len1 g → Grown ns1 len1 ns2 len2 → Extends i ns1 len1 ns2 len2 o g r → Gathered i (o ∷ l) ns len ns2 len2 r
-gathered_more i None l ns len ns1 len1 ns2 len2 g r f h G p x =
+pub gathered_more : (i : ℕ) (o : Option Active) (l : List (Option Active)) (ns : List Node) (ns1 : List Node) (ns2 : List Node) (g r : Option Group) → ((a : Active) → o ≡ Some a → Fine ns i a) → i < 64 → Gathered (i + 1) l ns ns1 g → Grown ns1 ns2 → Extends i ns1 ns2 o g r → Gathered i (o ∷ l) ns ns2 r
+gathered_more i None l ns ns1 ns2 g r f h G p x =
     let q = ap size x.0 in let n = x.1 in let m = G.room in
     record {
       grown = grown_on G.grown p;
       room = omega arith;
-      group = subst (λ z. Holds i ns2 len2 (edges ns l) z) (sym x.0) (holds_grown (i + 1) i ns1 len1 ns2 len2 p (omega arith) (edges ns l) g G.group);
+      group = subst (λ z. Holds i ns2 (edges ns l) z) (sym x.0) (holds_grown (i + 1) i ns1 ns2 p (omega arith) (edges ns l) g G.group);
     }
-gathered_more i (Some a) l ns len ns1 len1 ns2 len2 None r f h G p x =
+gathered_more i (Some a) l ns ns1 ns2 None r f h G p x =
     let q = ap size x.0 in let n = x.1 in let m = G.room in
     record {
       grown = grown_on G.grown p;
       room = omega arith;
-      group = subst (λ z. Holds i ns2 len2 (edge ns a ∷ edges ns l) z) (sym x.0) (holds_first i ns len ns1 len1 ns2 len2 a (edges ns l) (f a refl) h (grown_on G.grown p) G.group);
+      group = subst (λ z. Holds i ns2 (edge ns a ∷ edges ns l) z) (sym x.0) (holds_first i ns ns1 ns2 a (edges ns l) (f a refl) h (grown_on G.grown p) G.group);
     }
-gathered_more i (Some a) l ns len ns1 len1 ns2 len2 (Some k) r f h G p x =
+gathered_more i (Some a) l ns ns1 ns2 (Some k) r f h G p x =
     let q = ap size x.0 in let n = x.1 in let m = G.room in
     record {
       grown = grown_on G.grown p;
       room = omega arith;
-      group = subst (λ z. Holds i ns2 len2 (edge ns a ∷ edges ns l) z) (sym x.0) (holds_more i ns len ns1 len1 ns2 len2 a (edges ns l) k (f a refl) h G.grown x.1 x.2 G.group);
+      group = subst (λ z. Holds i ns2 (edge ns a ∷ edges ns l) z) (sym x.0) (holds_more i ns ns1 ns2 a (edges ns l) k (f a refl) h G.grown x.1 x.2 G.group);
     }
 
 -- the scan from the last slot to the first stands behind these slots, and has gathered the later ones
-pub record Gathering (before : List (Option Active)) (s : Side) (x : ℕ) (xs : List (Option Active)) (ns : List Node) (len : ℕ) (ns' : List Node) (len' : ℕ) (g : Option Group) : Type 0 where
+pub record Gathering (before : List (Option Active)) (s : Side) (x : ℕ) (xs : List (Option Active)) (ns : List Node) (ns' : List Node) (g : Option Group) : Type 0 where
   pub whole : before ++ drop (length before) xs ≡ xs
-  pub done : Gathered (length before) (map (touch s x) (drop (length before) xs)) ns len ns' len' g
+  pub done : Gathered (length before) (map (touch s x) (drop (length before) xs)) ns ns' g
 
-pub gathering_none : (before : List (Option Active)) (s : Side) (x : ℕ) (xs : List (Option Active)) (ns : List Node) (len : ℕ) → before ≡ xs → Gathering before s x xs ns len ns len None
-gathering_none before s x xs ns len e =
+pub gathering_none : (before : List (Option Active)) (s : Side) (x : ℕ) (xs : List (Option Active)) (ns : List Node) → before ≡ xs → Gathering before s x xs ns ns None
+gathering_none before s x xs ns e =
     let d : drop (length before) xs ≡ [] = drop_all (length before) xs (let n = ap length e in omega arith) in
     record {
       whole = ap (λ l. before ++ l) d ∙ append-nil before ∙ e;
-      done = subst (λ l. Gathered (length before) (map (touch s x) l) ns len ns len None) (sym d)
-          (record { grown = grown-same ns len; room = refl; group = tt });
+      done = subst (λ l. Gathered (length before) (map (touch s x) l) ns ns None) (sym d)
+          (record { grown = grown-same ns; room = refl; group = tt });
     }
 
-pub gathering_all : (before : List (Option Active)) (s : Side) (x : ℕ) (xs : List (Option Active)) (ns : List Node) (len : ℕ) (ns' : List Node) (len' : ℕ) (g : Option Group) → length before ≡ 0 → Gathering before s x xs ns len ns' len' g → Gathered 0 (map (touch s x) xs) ns len ns' len' g
-gathering_all before s x xs ns len ns' len' g e G = subst (λ n. Gathered n (map (touch s x) (drop n xs)) ns len ns' len' g) e G.done
+pub gathering_all : (before : List (Option Active)) (s : Side) (x : ℕ) (xs : List (Option Active)) (ns : List Node) (ns' : List Node) (g : Option Group) → length before ≡ 0 → Gathering before s x xs ns ns' g → Gathered 0 (map (touch s x) xs) ns ns' g
+gathering_all before s x xs ns ns' g e G = subst (λ n. Gathered n (map (touch s x) (drop n xs)) ns ns' g) e G.done
 
 -- one slot back: it is the slot at its position
 pub record Back (left : List (Option Active)) (t : Option Active) (xs : List (Option Active)) : Type 0 where
@@ -120,20 +120,20 @@ back before left t xs e w =
       within = omega arith;
     }
 
-pub gathering_more : (before left : List (Option Active)) (t : Option Active) (i : ℕ) (s : Side) (x : ℕ) (xs : List (Option Active)) (ns : List Node) (len : ℕ) (ns1 : List Node) (len1 : ℕ) (ns2 : List Node) (len2 : ℕ) (o : Option Active) (g r : Option Group) → before ≡ left ++ (t ∷ []) → i ≡ length left → length xs ≡ 64 → Stands ns len xs → o ≡ touch s x t → Gathering before s x xs ns len ns1 len1 g → Grown ns1 len1 ns2 len2 → Extends i ns1 len1 ns2 len2 o g r → Gathering left s x xs ns len ns2 len2 r
-gathering_more before left t i s x xs ns len ns1 len1 ns2 len2 o g r e j m S q G p X =
+pub gathering_more : (before left : List (Option Active)) (t : Option Active) (i : ℕ) (s : Side) (x : ℕ) (xs : List (Option Active)) (ns : List Node) (ns1 : List Node) (ns2 : List Node) (o : Option Active) (g r : Option Group) → before ≡ left ++ (t ∷ []) → i ≡ length left → length xs ≡ 64 → Stands ns xs → o ≡ touch s x t → Gathering before s x xs ns ns1 g → Grown ns1 ns2 → Extends i ns1 ns2 o g r → Gathering left s x xs ns ns2 r
+gathering_more before left t i s x xs ns ns1 ns2 o g r e j m S q G p X =
     let B = back before left t xs e G.whole in
     let n : length before ≡ length left + 1 = ap length e ∙ length-append left (t ∷ []) in
     let w = B.within in
     record {
       whole = B.whole;
-      done = subst (λ l. Gathered (length left) (map (touch s x) l) ns len ns2 len2 r) (sym B.split)
-          (gathered_more (length left) (touch s x t) (map (touch s x) (drop (length left + 1) xs)) ns len ns1 len1 ns2 len2 g r
+      done = subst (λ l. Gathered (length left) (map (touch s x) l) ns ns2 r) (sym B.split)
+          (gathered_more (length left) (touch s x t) (map (touch s x) (drop (length left + 1) xs)) ns ns1 ns2 g r
           (λ a h. S (length left) a (B.is ∙ touch_some s x t a h))
           (omega arith)
-          (subst (λ k. Gathered k (map (touch s x) (drop k xs)) ns len ns1 len1 g) n G.done)
+          (subst (λ k. Gathered k (map (touch s x) (drop k xs)) ns ns1 g) n G.done)
           p
-          (subst (λ z. Extends (length left) ns1 len1 ns2 len2 z g r) q (subst (λ k. Extends k ns1 len1 ns2 len2 o g r) j X)));
+          (subst (λ z. Extends (length left) ns1 ns2 z g r) q (subst (λ k. Extends k ns1 ns2 o g r) j X)));
     }
 
 -- what the next turn asks
@@ -150,24 +150,24 @@ sits : (len len1 : ℕ) → len ≤ len1 → (o : Option Active) → ((a : Activ
 sits len len1 h None f = tt
 sits len len1 h (Some a) f = let k = f a refl in omega arith
 
-sits_group : (j : ℕ) (ns : List Node) (len : ℕ) (L : List Edge) (r : Option Group) → Holds j ns len L r → SitsGroup len r
-sits_group j ns len L None h = tt
-sits_group j ns len [] (Some g) h = absurd h
-sits_group j ns len (e ∷ L) (Some g) h = h.0
+sits_group : (j : ℕ) (ns : List Node) (L : List Edge) (r : Option Group) → Holds j ns L r → SitsGroup (length ns) r
+sits_group j ns L None h = tt
+sits_group j ns [] (Some g) h = absurd h
+sits_group j ns (e ∷ L) (Some g) h = h.0
 
 has_room : (len len1 m : ℕ) (o : Option Active) (l : List (Option Active)) (g : Option Group) → len1 + size g ≡ len + live l → live (o ∷ l) ≤ m → len + m ≤ 128 → Room len1 o g
 has_room len len1 m None l g a b c = tt
 has_room len len1 m (Some x) l None a b c = tt
 has_room len len1 m (Some x) l (Some h) a b c = omega arith
 
-pub asks : (before left : List (Option Active)) (t : Option Active) (s : Side) (x : ℕ) (xs : List (Option Active)) (ns : List Node) (len : ℕ) (ns1 : List Node) (len1 : ℕ) (o : Option Active) (g : Option Group) → before ≡ left ++ (t ∷ []) → Stands ns len xs → len + live (map (touch s x) xs) ≤ 128 → o ≡ touch s x t → Gathering before s x xs ns len ns1 len1 g → Sits len1 o × SitsGroup len1 g × Room len1 o g
-asks before left t s x xs ns len ns1 len1 o g e S room q G =
+pub asks : (before left : List (Option Active)) (t : Option Active) (s : Side) (x : ℕ) (xs : List (Option Active)) (ns : List Node) (ns1 : List Node) (o : Option Active) (g : Option Group) → before ≡ left ++ (t ∷ []) → Stands ns xs → length ns + live (map (touch s x) xs) ≤ 128 → o ≡ touch s x t → Gathering before s x xs ns ns1 g → Sits (length ns1) o × SitsGroup (length ns1) g × Room (length ns1) o g
+asks before left t s x xs ns ns1 o g e S room q G =
     let B = back before left t xs e G.whole in
     let n : length before ≡ length left + 1 = ap length e ∙ length-append left (t ∷ []) in
-    let K : Gathered (length left + 1) (map (touch s x) (drop (length left + 1) xs)) ns len ns1 len1 g = subst (λ k. Gathered k (map (touch s x) (drop k xs)) ns len ns1 len1 g) n G.done in
+    let K : Gathered (length left + 1) (map (touch s x) (drop (length left + 1) xs)) ns ns1 g = subst (λ k. Gathered k (map (touch s x) (drop k xs)) ns ns1 g) n G.done in
     let d = live-drop (touch s x) xs (length left) in
     let b : live (touch s x t ∷ map (touch s x) (drop (length left + 1) xs)) ≤ live (map (touch s x) xs) = subst (λ l. live (map (touch s x) l) ≤ live (map (touch s x) xs)) B.split d in (
-      sits len len1 K.grown.more o (λ a h. (S (length left) a (B.is ∙ touch_some s x t a (sym q ∙ h))).at),
-      sits_group (length left + 1) ns1 len1 (edges ns (map (touch s x) (drop (length left + 1) xs))) g K.group,
-      subst (λ z. Room len1 z g) (sym q) (has_room len len1 (live (map (touch s x) xs)) (touch s x t) (map (touch s x) (drop (length left + 1) xs)) g K.room b room),
+      sits (length ns) (length ns1) K.grown.more o (λ a h. (S (length left) a (B.is ∙ touch_some s x t a (sym q ∙ h))).at),
+      sits_group (length left + 1) ns1 (edges ns (map (touch s x) (drop (length left + 1) xs))) g K.group,
+      subst (λ z. Room (length ns1) z g) (sym q) (has_room (length ns) (length ns1) (live (map (touch s x) xs)) (touch s x t) (map (touch s x) (drop (length left + 1) xs)) g K.room b room),
     )

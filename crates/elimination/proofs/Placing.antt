@@ -34,8 +34,8 @@ none-live zero = refl
 none-live (suc n) = none-live n
 
 -- before the first link
-pub placed-none : (links : List Link) (l : List (Option Active)) (ns : List Node) (len : ℕ) → l ≡ replicate 64 None → len ≡ 0 → length l ≡ 64 → Placed 0 links l ns len
-placed-none links l ns len e z long = record {
+pub placed-none : (links : List Link) (l : List (Option Active)) (ns : List Node) → l ≡ replicate 64 None → length ns ≡ 0 → length l ≡ 64 → Placed 0 links l ns
+placed-none links l ns e z long = record {
   edges_are = λ c q. ap (edges ns) e ∙ no_edges ns 64;
   stands = λ k a h. absurd (none_some (sym (none-at None 64 k) ∙ sym (ap (λ m. get_or m k None) e) ∙ h));
   len_is = z;
@@ -60,12 +60,12 @@ edges_push ns (None ∷ l) (suc k) a h f = edges_push ns l k a (omega arith) (λ
 edges_push ns (Some b ∷ l) (suc k) a h f = ap (λ z. edge ns b ∷ z) (edges_push ns l k a (omega arith) (λ j q. f (suc j) (omega arith)))
 
 -- one link more
-pub placed-more : (i : ℕ) (links : List Link) (l : List (Option Active)) (ns : List Node) (len : ℕ) (ns' : List Node) (len' at : ℕ) → Placed i links l ns len → i < 64 → i < length links → Loopless links → at ≡ len → len' ≡ len + 1 → tree_at ns' len ≡ link i → ((k : ℕ) → k < len → tree_at ns' k ≡ tree_at ns k) → Placed (i + 1) links (set l i (Some (record { from = (get_or links i bare).from; to = (get_or links i bare).to; at = at }))) ns' len'
-placed-more i links l ns len ns' len' at P small within ok q n t same =
+pub placed-more : (i : ℕ) (links : List Link) (l : List (Option Active)) (ns : List Node) (ns' : List Node) (at : ℕ) → Placed i links l ns → i < 64 → i < length links → Loopless links → at ≡ length ns → length ns' ≡ length ns + 1 → tree_at ns' (length ns) ≡ link i → ((k : ℕ) → k < length ns → tree_at ns' k ≡ tree_at ns k) → Placed (i + 1) links (set l i (Some (record { from = (get_or links i bare).from; to = (get_or links i bare).to; at = at }))) ns'
+placed-more i links l ns ns' at P small within ok q n t same =
     let u = (get_or links i bare).from in
     let w = (get_or links i bare).to in
     let a : Active = record { from = u; to = w; at = at } in
-    let G : Grown ns len ns' len' = record { more = omega arith; same = same } in
+    let G : Grown ns ns' = record { more = omega arith; same = same } in
     let tree : tree_at ns' at ≡ link i = ap (tree_at ns') q ∙ t in
     let long = P.long in
     let lis = P.len_is in
@@ -74,13 +74,13 @@ placed-more i links l ns len ns' len' at P small within ok q n t same =
     record {
       edges_are = λ c e.
           edges_push ns' l i a fits P.rest
-          ∙ ap₂ (λ z e. z ++ (e ∷ [])) (edges-grown ns len ns' len' G l (λ k a h. (P.stands k a h).at) ∙ P.edges_are c e) (ap (edge-between u w) tree ∙ ap (λ (k : List Link). edge-between (get_or k i bare).from (get_or k i bare).to (link i)) (sym e))
+          ∙ ap₂ (λ z e. z ++ (e ∷ [])) (edges-grown ns ns' G l (λ k a h. (P.stands k a h).at) ∙ P.edges_are c e) (ap (edge-between u w) tree ∙ ap (λ (k : List Link). edge-between (get_or k i bare).from (get_or k i bare).to (link i)) (sym e))
           ∙ sym (ap (first-edges c) (add-one i));
       stands = λ k b h. elim (ℕ_discrete k i) [
         | yes p ↦
             let s : a ≡ b = some_same (sym (get_or-set_same l i (Some a) None fits) ∙ sym (ap (λ m. get_or (set l i (Some a)) m None) p) ∙ h) in
-            subst (λ z. Fine ns' len' k z) s (record { at = omega arith; low = ap (λ z. (text link_text z).low) tree ∙ link_low i ∙ sym p; apart = ok i within })
-        | no p ↦ stands_grown ns len ns' len' l G P.stands k b (sym (get_or-set_other l i k (Some a) None p) ∙ h)
+            subst (λ z. Fine ns' k z) s (record { at = omega arith; low = ap (λ z. (text link_text z).low) tree ∙ link_low i ∙ sym p; apart = ok i within })
+        | no p ↦ stands_grown ns ns' l G P.stands k b (sym (get_or-set_other l i k (Some a) None p) ∙ h)
       ];
       len_is = omega arith;
       live-is = let e = live-set l i a fits (P.rest i (omega arith)) in omega arith;
@@ -89,8 +89,8 @@ placed-more i links l ns len ns' len' at P small within ok q n t same =
     }
 
 -- once all links are placed, the edges are the links of the circuit
-pub placed-all : (c : Circuit) (links : List Link) (l : List (Option Active)) (ns : List Node) (len : ℕ) → c.links ≡ links → Placed (length links) links l ns len → edges ns l ≡ first-edges c (length c.links)
-placed-all c links l ns len e P = P.edges_are c e ∙ ap (λ k. first-edges c (length k)) (sym e)
+pub placed-all : (c : Circuit) (links : List Link) (l : List (Option Active)) (ns : List Node) → c.links ≡ links → Placed (length links) links l ns → edges ns l ≡ first-edges c (length c.links)
+placed-all c links l ns e P = P.edges_are c e ∙ ap (λ k. first-edges c (length k)) (sym e)
 
 -- the slice of a drawn rung's links that is placed
 pub slice_is : (r : Rung) → (circuit r).links ≡ take (r.link_count - 0) r.links

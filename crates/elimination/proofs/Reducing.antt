@@ -30,8 +30,8 @@ fewer (true ∷ l) (suc x) h e = fewer l x (omega arith) e
 fewer (false ∷ l) (suc x) h e = let r = fewer l x (omega arith) e in omega arith
 
 -- no joint is eliminated at first
-pub work_start : (joints : ℕ) (l : List (Option Active)) (ns : List Node) (len : ℕ) → Stands ns len l → Work joints (len + live l) (edges ns l) l ns len (replicate 32 false)
-work_start joints l ns len S = record {
+pub work_start : (joints : ℕ) (l : List (Option Active)) (ns : List Node) → Stands ns l → Work joints (length ns + live l) (edges ns l) l ns (replicate 32 false)
+work_start joints l ns S = record {
   xs = [];
   reached = start;
   stands = S;
@@ -42,8 +42,8 @@ work_start joints l ns len S = record {
 }
 
 -- one joint more
-pub work_more : (joints total : ℕ) (A : List Edge) (l : List (Option Active)) (ns : List Node) (len : ℕ) (gone : List Bool) (p : Passage) (l' : List (Option Active)) (ns' : List Node) (len' : ℕ) → joints ≤ 32 → Work joints total A l ns len gone → Picked joints gone l (Some p) → Eliminated p.joint p.from p.to l ns len l' ns' len' → Work joints total A l' ns' len' (set gone p.joint true)
-work_more joints total A l ns len gone p l' ns' len' most W P D =
+pub work_more : (joints total : ℕ) (A : List Edge) (l : List (Option Active)) (ns : List Node) (gone : List Bool) (p : Passage) (l' : List (Option Active)) (ns' : List Node) → joints ≤ 32 → Work joints total A l ns gone → Picked joints gone l (Some p) → Eliminated p.joint p.from p.to l ns l' ns' → Work joints total A l' ns' (set gone p.joint true)
+work_more joints total A l ns gone p l' ns' most W P D =
     let a = P.0 in let b = P.1 in let c = W.room in let d = D.room in let long = W.long in
     let fits : p.joint < length gone = omega arith in
     record {
@@ -62,6 +62,9 @@ work_more joints total A l ns len gone p l' ns' len' most W P D =
       long = length-set gone p.joint true ∙ long;
     }
 
+pub work_at : {joints joints' total : ℕ} {A : List Edge} {l : List (Option Active)} {ns : List Node} {gone : List Bool} → joints ≡ joints' → Work joints total A l ns gone → Work joints' total A l ns gone
+work_at {total = total} {A = A} {l = l} {ns = ns} {gone = gone} e W = subst (λ j. Work j total A l ns gone) e W
+
 -- an edge from a joint to itself: there is no reading
 loop_refused : (joints : ℕ) (A B : List Edge) (xs : List ℕ) (e : Edge) → Reaches 0 (joints - 1) A xs B → In e B → e.from ≡ e.to → NoReading joints A
 loop_refused joints A B xs e r i h g j range S w R =
@@ -69,11 +72,11 @@ loop_refused joints A B xs e r i h g j range S w R =
     let K = keeps (subst (λ z. Reaches 0 z A xs B) c r) (text link_text w) (reading g w A R S) in
     loopless ends_of K.tree 0 (coil_joint g) K.runs e (K.all e i) h
 
-pub turn_refused : (joints total : ℕ) (A : List Edge) (l : List (Option Active)) (ns : List Node) (len : ℕ) (gone : List Bool) (p : Passage) → Work joints total A l ns len gone → Picked joints gone l (Some p) → p.from ≡ p.to → NoReading joints A
-turn_refused joints total A l ns len gone p W P h =
+pub turn_refused : (joints total : ℕ) (A : List Edge) (l : List (Option Active)) (ns : List Node) (gone : List Bool) (p : Passage) → Work joints total A l ns gone → Picked joints gone l (Some p) → p.from ≡ p.to → NoReading joints A
+turn_refused joints total A l ns gone p W P h =
     let a = P.0 in let b = P.1 in
     let B = edges ns l in
-    let T = (tidy_step B p.joint p.from p.to (rising_edges ns len l W.stands) (picked_may joints gone ns l p P)).0 in
+    let T = (tidy_step B p.joint p.from p.to (rising_edges ns l W.stands) (picked_may joints gone ns l p P)).0 in
     let C = eliminate p.joint p.from p.to B in
     let c = combined p.from p.to T.into T.out in
     loop_refused joints A C (p.joint ∷ W.xs) c (more p.joint p.from p.to C W.reached (omega arith) (omega arith) T) ((T.left c).1 (inl refl)) h
@@ -83,8 +86,8 @@ true_or_false : (b : Bool) → (b ≡ true → ⊥) → b ≡ false
 true_or_false true f = absurd (f refl)
 true_or_false false f = refl
 
-none_left : (joints total : ℕ) (A : List Edge) (l : List (Option Active)) (ns : List Node) (len : ℕ) (gone : List Bool) (W : Work joints total A l ns len gone) → Picked joints gone l None → (g : Circuit) → g.joints ≡ joints → NoMore g W.xs (edges ns l)
-none_left joints total A l ns len gone W P g j x u w lt n0 nc out E =
+none_left : (joints total : ℕ) (A : List Edge) (l : List (Option Active)) (ns : List Node) (gone : List Bool) (W : Work joints total A l ns gone) → Picked joints gone l None → (g : Circuit) → g.joints ≡ joints → NoMore g W.xs (edges ns l)
+none_left joints total A l ns gone W P g j x u w lt n0 nc out E =
     let n1 : x ≢ 0 = n0 in
     let n2 : x ≢ g.joints - 1 = nc in
     not_chosen (get_or gone x false) x ns l (true_or_false (get_or gone x false) (λ h. out (W.marked x h))) (P x (omega arith) (omega arith)) u w E
@@ -93,10 +96,10 @@ reached-at : (joints : ℕ) (A B : List Edge) (xs : List ℕ) (g : Circuit) → 
 reached-at joints A B xs g j r = subst (λ z. Reaches 0 (z - 1) A xs B) (sym j) r
 
 -- one is left over
-pub gone_refused : (joints total : ℕ) (A : List Edge) (l : List (Option Active)) (ns : List Node) (len : ℕ) (gone : List Bool) → Work joints total A l ns len gone → Picked joints gone l None → AllGone joints gone false → NoReading joints A
-gone_refused joints total A l ns len gone W P G g j range S w R =
+pub gone_refused : (joints total : ℕ) (A : List Edge) (l : List (Option Active)) (ns : List Node) (gone : List Bool) → Work joints total A l ns gone → Picked joints gone l None → AllGone joints gone false → NoReading joints A
+gone_refused joints total A l ns gone W P G g j range S w R =
     let y = G.0 in let a = G.1 in let b = G.2 in
-    refused g A (edges ns l) W.xs range S (reached-at joints A (edges ns l) W.xs g j W.reached) (none_left joints total A l ns len gone W P g j)
+    refused g A (edges ns l) W.xs range S (reached-at joints A (edges ns l) W.xs g j W.reached) (none_left joints total A l ns gone W P g j)
     (inr (inl (y, omega arith, omega arith, omega arith, λ i. let p = W.only y i in let q = G.3 in let z : ◌≡◌ {A = ℕ} 0 1 = cc in omega arith))) w R
 
 -- whether all edges go straight
@@ -139,8 +142,8 @@ straight-all c ns (Some a ∷ l) e =
     no_such f t = let z : ◌≡◌ {A = ℕ} 0 1 = cc in omega arith
 
 -- every inner joint is gone
-pub outcome : (joints total : ℕ) (A : List Edge) (l : List (Option Active)) (ns : List Node) (len : ℕ) (gone : List Bool) → Work joints total A l ns len gone → Picked joints gone l None → AllGone joints gone true → (r : Bool) → r ≡ straight (joints - 1) l → Outcome joints total A l ns len r
-outcome joints total A l ns len gone W P G true e = record {
+pub outcome : (joints total : ℕ) (A : List Edge) (l : List (Option Active)) (ns : List Node) (gone : List Bool) → Work joints total A l ns gone → Picked joints gone l None → AllGone joints gone true → (r : Bool) → r ≡ straight (joints - 1) l → Outcome joints total A l ns r
+outcome joints total A l ns gone W P G true e = record {
   xs = W.xs;
   reached = W.reached;
   stands = W.stands;
@@ -154,7 +157,7 @@ outcome joints total A l ns len gone W P G true e = record {
   ];
   direct = sym e;
 }
-outcome joints total A l ns len gone W P G false e = λ g j range S w R.
+outcome joints total A l ns gone W P G false e = λ g j range S w R.
     let c = crooked (joints - 1) ns l (sym e) in
-    refused g A (edges ns l) W.xs range S (reached-at joints A (edges ns l) W.xs g j W.reached) (none_left joints total A l ns len gone W P g j)
+    refused g A (edges ns l) W.xs range S (reached-at joints A (edges ns l) W.xs g j W.reached) (none_left joints total A l ns gone W P g j)
     (inl (c.edge-is, c.within, λ h. c.not_so (h.0, h.1 ∙ ap (λ z. z - 1) j))) w R

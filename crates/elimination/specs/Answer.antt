@@ -7,16 +7,16 @@ use Rattle.elimination.specs.declared.table.Node.{Node}
 use Rattle.elimination.specs.Trees.{tree_at}
 
 -- the wiring at the position root of the table reads the circuit
-pub record Decomposed (c : Circuit) (ns : List Node) (len root : ℕ) : Type 0 where
+pub record Decomposed (c : Circuit) (ns : List Node) (root : ℕ) : Type 0 where
   pub reads : Reads c (tree_at ns root)
   -- every wiring that reads the circuit has its text
   pub one_text : (w : Wiring ℕ) → Reads c w → text link_text w ≡ text link_text (tree_at ns root)
-  pub within : root < len
+  pub within : root < length ns
   -- n links make 2n - 1 nodes
-  pub nodes : len + 1 ≡ length c.links + length c.links
+  pub nodes : length ns + 1 ≡ length c.links + length c.links
   pub leaf_count : length (leaves (tree_at ns root)) ≡ length c.links
 
 -- the position of a wiring that reads the circuit, or that no wiring reads it
-abbrev pub Answer : Circuit → List Node → ℕ → Option ℕ → Type 0
-Answer c ns len (Some root) = Decomposed c ns len root
-Answer c ns len None = SeriesParallel c → ⊥
+abbrev pub Answer : Circuit → List Node → Option ℕ → Type 0
+Answer c ns (Some root) = Decomposed c ns root
+Answer c ns None = SeriesParallel c → ⊥

@@ -38,36 +38,36 @@ abbrev pub Loopless : List Link → Type 0
 Loopless links = (i : ℕ) → i < length links → (get_or links i bare).from ≢ (get_or links i bare).to
 
 -- the first i links stand in their slots
-pub record Placed (i : ℕ) (links : List Link) (l : List (Option Active)) (ns : List Node) (len : ℕ) : Type 0 where
+pub record Placed (i : ℕ) (links : List Link) (l : List (Option Active)) (ns : List Node) : Type 0 where
   pub edges_are : (c : Circuit) → c.links ≡ links → edges ns l ≡ first-edges c i
-  pub stands : Stands ns len l
-  pub len_is : len ≡ i
+  pub stands : Stands ns l
+  pub len_is : length ns ≡ i
   pub live-is : live l ≡ i
   pub rest : (k : ℕ) → i ≤ k → slice_index_or l k None ≡ None
   pub long : length l ≡ 64
 
 -- the joint x has been eliminated
-pub record Eliminated (x u w : ℕ) (l : List (Option Active)) (ns : List Node) (len : ℕ) (l' : List (Option Active)) (ns' : List Node) (len' : ℕ) : Type 0 where
+pub record Eliminated (x u w : ℕ) (l : List (Option Active)) (ns : List Node) (l' : List (Option Active)) (ns' : List Node) : Type 0 where
   pub step : Step (edges ns l) x u w (edges ns' l')
-  pub stands : Stands ns' len' l'
-  pub room : len' + live l' ≡ len + live l
+  pub stands : Stands ns' l'
+  pub room : length ns' + live l' ≡ length ns + live l
 
 -- joints have been eliminated from the edges A, and are marked; nodes and edges are total in number throughout
-pub record Work (joints total : ℕ) (A : List Edge) (l : List (Option Active)) (ns : List Node) (len : ℕ) (gone : List Bool) : Type 0 where
+pub record Work (joints total : ℕ) (A : List Edge) (l : List (Option Active)) (ns : List Node) (gone : List Bool) : Type 0 where
   pub xs : List ℕ
   pub reached : Reaches 0 (joints - 1) A xs (edges ns l)
-  pub stands : Stands ns len l
-  pub room : len + live l ≡ total
+  pub stands : Stands ns l
+  pub room : length ns + live l ≡ total
   pub marked : (y : ℕ) → slice_index_or gone y false ≡ true → In y xs
   pub only : (y : ℕ) → In y xs → slice_index_or gone y false ≡ true
   pub long : length gone ≡ 32
 
 -- every inner joint has been eliminated, and all edges go from joint 0 to the coil joint
-pub record Reduced (joints total : ℕ) (A : List Edge) (l : List (Option Active)) (ns : List Node) (len : ℕ) : Type 0 where
+pub record Reduced (joints total : ℕ) (A : List Edge) (l : List (Option Active)) (ns : List Node) : Type 0 where
   pub xs : List ℕ
   pub reached : Reaches 0 (joints - 1) A xs (edges ns l)
-  pub stands : Stands ns len l
-  pub room : len + live l ≡ total
+  pub stands : Stands ns l
+  pub room : length ns + live l ≡ total
   pub all : (y : ℕ) → y < joints → (y ≡ 0) ⊎ ((y ≡ joints - 1) ⊎ In y xs)
   pub direct : straight (joints - 1) l ≡ true
 
@@ -76,6 +76,6 @@ abbrev pub NoReading : ℕ → List Edge → Type 0
 NoReading joints A = (c : Circuit) → c.joints ≡ joints → InRange c → Starts c A → (w : Wiring ℕ) → Reads c w → ⊥
 
 -- how the elimination ends
-abbrev pub Outcome : ℕ → ℕ → List Edge → List (Option Active) → List Node → ℕ → Bool → Type 0
-Outcome joints total A l ns len true = Reduced joints total A l ns len
-Outcome joints total A l ns len false = NoReading joints A
+abbrev pub Outcome : ℕ → ℕ → List Edge → List (Option Active) → List Node → Bool → Type 0
+Outcome joints total A l ns true = Reduced joints total A l ns
+Outcome joints total A l ns false = NoReading joints A

@@ -1,5 +1,5 @@
 -- What the slots stand for: this file serves the recognition's own contracts, and is not part of what a reader must believe.
-use Rattle.std.specs.Prelude.{◌≡◌, ℕ, suc, ◌<◌, Bool, true, cond, ◌&&◌, ◌||◌, ◌≢◌, List, [], ◌∷◌, map, Some, None, Option, ◌==◌, slice_index_or}
+use Rattle.std.specs.Prelude.{◌≡◌, ℕ, suc, ◌<◌, Bool, true, cond, ◌&&◌, ◌||◌, ◌≢◌, List, [], ◌∷◌, map, Some, None, Option, ◌==◌, slice_index_or, length}
 use Rattle.std.specs.List.{filter_map, list_all}
 use Rattle.wiring.specs.Elimination.{Edge}
 use Rattle.wiring.specs.Text.{link_text, text}
@@ -68,11 +68,11 @@ abbrev pub low_at : List Node → ℕ → ℕ
 low_at ns i = (text link_text (tree_at ns i)).low
 
 -- the filled slot k: its wiring stands in the table, k is its lowest link, and its ends differ
-pub record Fine (ns : List Node) (len k : ℕ) (a : Active) : Type 0 where
-  pub at : a.at < len
+pub record Fine (ns : List Node) (k : ℕ) (a : Active) : Type 0 where
+  pub at : a.at < length ns
   pub low : low_at ns a.at ≡ k
   pub apart : a.from ≢ a.to
 
 -- so do all filled slots
-abbrev pub Stands : List Node → ℕ → List (Option Active) → Type 0
-Stands ns len l = (k : ℕ) (a : Active) → slice_index_or l k None ≡ Some a → Fine ns len k a
+abbrev pub Stands : List Node → List (Option Active) → Type 0
+Stands ns l = (k : ℕ) (a : Active) → slice_index_or l k None ≡ Some a → Fine ns k a

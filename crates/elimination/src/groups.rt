@@ -1,5 +1,5 @@
 //! Branch groups, and the edge that takes the place of a joint.
-ghost use Rattle.std.specs.Prelude.{◌+◌, ◌≤◌, map};
+ghost use Rattle.std.specs.Prelude.{◌+◌, ◌≤◌, map, length};
 ghost use Rattle.wiring.specs.Elimination.{Eligible};
 ghost use Rattle.elimination.specs.Slots.{touch, edges, live, Stands};
 ghost use Rattle.elimination.specs.Groups.{Grown, Sits, SitsGroup, Room, Extends, Gathered, Merged};
@@ -24,11 +24,11 @@ pub(crate) struct Passage {
 
 /// The group with one edge more, whose lowest link is below the group's.
 fn extend(table: &mut Table, slot: Option<Active>, low: u8, group: Option<Group>) -> Option<Group>
-    requires slot { Sits table.old.len slot }
-    requires group { SitsGroup table.old.len group }
-    requires room { Room table.old.len slot group }
-    ensures grown { Grown table.old.nodes table.old.len table.new.nodes table.new.len }
-    ensures value { Extends low table.old.nodes table.old.len table.new.nodes table.new.len slot group result }
+    requires slot { Sits (length table.old.nodes.items) slot }
+    requires group { SitsGroup (length table.old.nodes.items) group }
+    requires room { Room (length table.old.nodes.items) slot group }
+    ensures grown { Grown table.old.nodes.items table.new.nodes.items }
+    ensures value { Extends low table.old.nodes.items table.new.nodes.items slot group result }
 {
     match (slot, group) {
         (None, _) => group,
@@ -42,9 +42,9 @@ fn extend(table: &mut Table, slot: Option<Active>, low: u8, group: Option<Group>
 
 /// The group of the edges that touch the joint at that side, in the order of their lowest links.
 pub(crate) fn gather(table: &mut Table, slots: &Slots, side: Side, joint: u8) -> Option<Group>
-    requires stands { Stands table.old.nodes table.old.len slots.now }
-    requires room { table.old.len + live (map (touch side joint) slots.now) ≤ 128 }
-    ensures { Gathered 0 (map (touch side joint) slots.now) table.old.nodes table.old.len table.new.nodes table.new.len result }
+    requires stands { Stands table.old.nodes.items slots.now }
+    requires room { length table.old.nodes.items + live (map (touch side joint) slots.now) ≤ 128 }
+    ensures { Gathered 0 (map (touch side joint) slots.now) table.old.nodes.items table.new.nodes.items result }
 {
     let mut group = None;
     for (i, slot) in slots.iter().enumerate().rev() {
@@ -55,17 +55,13 @@ pub(crate) fn gather(table: &mut Table, slots: &Slots, side: Side, joint: u8) ->
 
 /// The group into a joint in series with the group out of it.
 pub(crate) fn merge(table: &mut Table, slots: &Slots, passage: Passage) -> Group
-    requires stands { Stands table.old.nodes table.old.len slots.now }
-    requires room { table.old.len + live slots.now ≤ 128 }
-    requires may { Eligible (edges table.old.nodes slots.now) passage.joint passage.from passage.to }
-    ensures { Merged passage.joint slots.now table.old.nodes table.old.len table.new.nodes table.new.len result }
+    requires stands { Stands table.old.nodes.items slots.now }
+    requires room { length table.old.nodes.items + live slots.now ≤ 128 }
+    requires may { Eligible (edges table.old.nodes.items slots.now) passage.joint passage.from passage.to }
+    ensures { Merged passage.joint slots.now table.old.nodes.items table.new.nodes.items result }
 {
-    let Some(into) = gather(table, slots, Side::Entering, passage.joint) else {
-        unreachable()
-    };
-    let Some(out) = gather(table, slots, Side::Leaving, passage.joint) else {
-        unreachable()
-    };
+    let into = gather(table, slots, Side::Entering, passage.joint).unwrap();
+    let out = gather(table, slots, Side::Leaving, passage.joint).unwrap();
     let at = table.push(Node::Series(into.at, out.at));
     Group {
         at,

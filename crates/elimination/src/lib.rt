@@ -1,10 +1,8 @@
 //! Recognition of series-parallel rungs by the elimination of joints.
 #![tactic(auto)]
 
-ghost use Rattle.std.specs.Prelude.{◌≡◌, ◌≤◌, length, replicate, None};
 ghost use Rattle.wiring.specs.Circuit.{circuit};
 ghost use Rattle.elimination.specs.Answer.{Answer};
-ghost use Rattle.elimination.specs.Reduction.{Loopless, Placed};
 
 mod groups;
 mod reduction;
@@ -12,40 +10,26 @@ mod slots;
 mod table;
 
 use groups::gather;
-use reduction::reduce;
-use slots::{Active, Side, Slots};
+use reduction::Reduction;
+use slots::Side;
 pub use table::{Node, Table};
-use wiring::{Link, Rung};
-
-/// Puts each link into its slot.
-fn place(table: &mut Table, slots: &mut Slots, links: &[Link])
-    requires most { length links.now ≤ 64 }
-    requires loopless { Loopless links.now }
-    requires table { table.old.len ≡ 0 }
-    requires slots { slots.old ≡ replicate 64 None }
-    ensures { Placed (length links.now) links.now slots.new table.new.nodes table.new.len }
-{
-    for (i, link) in links.iter().enumerate() {
-        let at = table.push(Node::Link(i as u8));
-        slots[i] = Some(Active {
-            from: link.from,
-            to: link.to,
-            at,
-        });
-    }
-}
+use wiring::Rung;
 
 /// Finds the wiring that reads a rung, and leaves it in the table: the position of its root, or `None` if the
 /// rung is not series-parallel.
 pub fn decompose(rung: &Rung, table: &mut Table) -> Option<u8>
-    ensures { Answer (circuit rung.now) table.new.nodes table.new.len result }
+    ensures { Answer (circuit rung.now) table.new.nodes.items result }
 {
-    table.clear();
-    let mut slots = [None; 64];
-    place(table, &mut slots, &rung.links[0..rung.link_count as usize]);
-    if !reduce(table, &mut slots, rung.joints as usize) {
+    let mut reduction = Reduction::of(rung);
+    if !reduction.reduce() {
         return None;
     }
-    let group = gather(table, &slots, Side::Leaving, 0)?;
+    let Reduction {
+        table: mut reduced,
+        slots,
+        ..
+    } = reduction;
+    let group = gather(&mut reduced, &slots, Side::Leaving, 0)?;
+    *table = reduced;
     Some(group.at)
 }

@@ -1,13 +1,27 @@
 //! The elimination of one joint after the other.
-ghost use Rattle.std.specs.Prelude.{◌≡◌, ◌+◌, ◌≤◌, ◌≢◌};
+ghost use Rattle.std.specs.Prelude.{◌≡◌, ◌+◌, ◌≤◌, ◌≢◌, length};
 ghost use Rattle.std.specs.List.{list_all};
+ghost use Rattle.wiring.specs.Circuit.{circuit};
 ghost use Rattle.wiring.specs.Elimination.{Eligible};
 ghost use Rattle.elimination.specs.Slots.{edges, live, Stands};
-ghost use Rattle.elimination.specs.Reduction.{candidate_of, Picked, Eliminated, Outcome};
+ghost use Rattle.elimination.specs.Reduction.{candidate_of, Picked, Placed, Eliminated, Outcome};
 
 use crate::groups::{Passage, merge};
 use crate::slots::{Active, Side, Slots, all_straight, clear, only_end};
-use crate::table::Table;
+use crate::table::{Node, Table};
+use wiring::Rung;
+
+/// A rung that is being reduced: the wirings of its edges, and the edges between the joints that are left.
+#[derive(Drop)]
+pub(crate) struct Reduction {
+    pub table: Table,
+    pub slots: Slots,
+    joints: usize,
+    ghost stands: { Stands table.nodes.items slots },
+    ghost room: { length table.nodes.items + live slots ≤ 128 },
+    ghost two: { 2 ≤ joints },
+    ghost most: { joints ≤ 32 },
+}
 
 /// The way through a joint that is not gone, if one joint is before it and one behind it.
 fn candidate(slots: &Slots, gone: bool, joint: u8) -> Option<Passage>
@@ -21,20 +35,6 @@ fn candidate(slots: &Slots, gone: bool, joint: u8) -> Option<Passage>
     Some(Passage { joint, from, to })
 }
 
-/// An inner joint that is not gone and can be eliminated.
-fn pick(slots: &Slots, gone: &[bool; 32], joints: usize) -> Option<Passage>
-    requires two { 2 ≤ joints }
-    requires most { joints ≤ 32 }
-    ensures { Picked joints gone.now slots.now result }
-{
-    for (i, gone) in gone[1..joints - 1].iter().enumerate() {
-        if let Some(passage) = candidate(slots, *gone, i as u8 + 1) {
-            return Some(passage);
-        }
-    }
-    None
-}
-
 /// Whether all these joints are gone.
 fn all_gone(gone: &[bool]) -> bool
     ensures { result ≡ list_all (λ gone. gone) gone.now }
@@ -42,42 +42,74 @@ fn all_gone(gone: &[bool]) -> bool
     gone.iter().all(|gone| *gone)
 }
 
-/// Puts one edge in the place of a joint and of all edges at it.
-fn eliminate(table: &mut Table, slots: &mut Slots, passage: Passage)
-    requires stands { Stands table.old.nodes table.old.len slots.old }
-    requires room { table.old.len + live slots.old ≤ 128 }
-    requires may { Eligible (edges table.old.nodes slots.old) passage.joint passage.from passage.to }
-    requires apart { passage.from ≢ passage.to }
-    ensures { Eliminated passage.joint passage.from passage.to slots.old table.old.nodes table.old.len slots.new table.new.nodes table.new.len }
-{
-    let group = merge(table, slots, passage);
-    clear(slots, passage.joint);
-    slots[group.low as usize] = Some(Active {
-        from: passage.from,
-        to: passage.to,
-        at: group.at,
-    });
-}
+impl Reduction {
+    /// The links of a rung, each in its slot.
+    pub(crate) fn of(rung: &Rung) -> Reduction
+        ensures joints { result.joints ≡ rung.now.joints }
+        ensures placed { Placed (length (circuit rung.now).links) (circuit rung.now).links result.slots result.table.nodes.items }
+    {
+        let links = &rung.links[0..rung.link_count as usize];
+        let mut table = Table::new();
+        let mut slots = [None; 64];
+        for (i, link) in links.iter().enumerate() {
+            let at = table.push(Node::Link(i as u8));
+            slots[i] = Some(Active {
+                from: link.from,
+                to: link.to,
+                at,
+            });
+        }
+        Reduction {
+            table,
+            slots,
+            joints: rung.joints as usize,
+        }
+    }
 
-/// Eliminates joints as long as one can be: true if every inner joint is gone and every edge that is left goes
-/// from joint 0 to the coil joint.
-pub(crate) fn reduce(table: &mut Table, slots: &mut Slots, joints: usize) -> bool
-    requires two { 2 ≤ joints }
-    requires most { joints ≤ 32 }
-    requires stands { Stands table.old.nodes table.old.len slots.old }
-    requires room { table.old.len + live slots.old ≤ 128 }
-    ensures { Outcome joints (table.old.len + live slots.old) (edges table.old.nodes slots.old) slots.new table.new.nodes table.new.len result }
-{
-    let mut gone = [false; 32];
-    while let Some(next) = pick(slots, &gone, joints) {
-        if next.from == next.to {
+    /// An inner joint that is not gone and can be eliminated.
+    fn pick(&self, gone: &[bool; 32]) -> Option<Passage>
+        ensures { Picked self.now.joints gone.now self.now.slots result }
+    {
+        for (i, gone) in gone[1..self.joints - 1].iter().enumerate() {
+            if let Some(passage) = candidate(&self.slots, *gone, i as u8 + 1) {
+                return Some(passage);
+            }
+        }
+        None
+    }
+
+    /// Puts one edge in the place of a joint and of all edges at it.
+    fn eliminate(&mut self, passage: Passage)
+        requires may { Eligible (edges self.old.table.nodes.items self.old.slots) passage.joint passage.from passage.to }
+        requires apart { passage.from ≢ passage.to }
+        ensures joints { self.new.joints ≡ self.old.joints }
+        ensures step { Eliminated passage.joint passage.from passage.to self.old.slots self.old.table.nodes.items self.new.slots self.new.table.nodes.items }
+    {
+        let group = merge(&mut self.table, &self.slots, passage);
+        clear(&mut self.slots, passage.joint);
+        self.slots[group.low as usize] = Some(Active {
+            from: passage.from,
+            to: passage.to,
+            at: group.at,
+        });
+    }
+
+    /// Eliminates joints as long as one can be: true if every inner joint is gone and every edge that is left goes
+    /// from joint 0 to the coil joint.
+    pub(crate) fn reduce(&mut self) -> bool
+        ensures { Outcome self.old.joints (length self.old.table.nodes.items + live self.old.slots) (edges self.old.table.nodes.items self.old.slots) self.new.slots self.new.table.nodes.items result }
+    {
+        let mut gone = [false; 32];
+        while let Some(next) = self.pick(&gone) {
+            if next.from == next.to {
+                return false;
+            }
+            self.eliminate(next);
+            gone[next.joint as usize] = true;
+        }
+        if !all_gone(&gone[1..self.joints - 1]) {
             return false;
         }
-        eliminate(table, slots, next);
-        gone[next.joint as usize] = true;
+        all_straight(&self.slots, (self.joints - 1) as u8)
     }
-    if !all_gone(&gone[1..joints - 1]) {
-        return false;
-    }
-    all_straight(slots, (joints - 1) as u8)
 }

@@ -8,20 +8,20 @@ pub loop-i-init : goal.loop-i-init
 loop-i-init c =
     let e = ap rev_source c.into_iter-i-iterator.ensures.into_iter_gives ∙ c.rev-i-items.ensures.source in (
       ap enumerate_count e ∙ c.enumerate.ensures.count,
-      gathering_none _ c.args.side c.args.joint c.args.slots.now c.args.table.now.nodes c.args.table.now.len (ap (λ z. iter_rest (enumerate_source z)) e ∙ ap iter_rest c.enumerate.ensures.source ∙ c.iter.ensures.rest),
+      gathering_none _ c.args.side c.args.joint c.args.slots.now c.args.table.now.nodes.items (ap (λ z. iter_rest (enumerate_source z)) e ∙ ap iter_rest c.enumerate.ensures.source ∙ c.iter.ensures.rest),
     )
 
 pub extend-group-requires : goal.extend-group-requires
 extend-group-requires c =
-    let t = asks _ _ _ c.args.side c.args.joint c.args.slots.now c.args.table.now.nodes c.args.table.now.len c.loop-i.table.nodes c.loop-i.table.len c.touching.result c.loop-i.group c.in-Some.ensures.steps.1.0 c.requires.stands c.requires.room c.touching.ensures c.loop-i.invariant.1 in
+    let t = asks _ _ _ c.args.side c.args.joint c.args.slots.now c.args.table.now.nodes.items c.loop-i.table.nodes.items c.touching.result c.loop-i.group c.in-Some.ensures.steps.1.0 c.requires.stands c.requires.room c.touching.ensures c.loop-i.invariant.1 in
     record { slot = t.0; group = t.1; room = t.2 }
 
 pub loop-i-preserved : goal.loop-i-preserved
 loop-i-preserved c =
     let i : c.in-Some.i ≡ enumerate_count (rev_source c.loop-i.i-iterator) + length (iter_rest (enumerate_source (rev_source c.next.new.self))) = c.in-Some.ensures.steps.1.1 in (
       c.in-Some.ensures.steps.0 ∙ c.loop-i.invariant.0,
-      gathering_more _ _ _ c.in-Some.i c.args.side c.args.joint c.args.slots.now c.args.table.now.nodes c.args.table.now.len c.loop-i.table.nodes c.loop-i.table.len _ _ c.touching.result c.loop-i.group _ c.in-Some.ensures.steps.1.0 (omega (arith, i, c.loop-i.invariant.0)) c.told-slots c.requires.stands c.touching.ensures c.loop-i.invariant.1 c.extend-group.ensures.grown c.extend-group.ensures.value,
+      gathering_more _ _ _ c.in-Some.i c.args.side c.args.joint c.args.slots.now c.args.table.now.nodes.items c.loop-i.table.nodes.items _ c.touching.result c.loop-i.group _ c.in-Some.ensures.steps.1.0 (omega (arith, i, c.loop-i.invariant.0)) c.told-slots c.requires.stands c.touching.ensures c.loop-i.invariant.1 c.extend-group.ensures.grown c.extend-group.ensures.value,
     )
 
 pub returns : goal.returns
-returns c = gathering_all _ c.args.side c.args.joint c.args.slots.now c.args.table.now.nodes c.args.table.now.len c.loop-i.table.nodes c.loop-i.table.len c.loop-i.group c.in-None.ensures.steps.1.0 c.loop-i.invariant.1
+returns c = gathering_all _ c.args.side c.args.joint c.args.slots.now c.args.table.now.nodes.items c.loop-i.table.nodes.items c.loop-i.group c.in-None.ensures.steps.1.0 c.loop-i.invariant.1

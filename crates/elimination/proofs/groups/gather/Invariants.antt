@@ -7,4 +7,4 @@ use Rattle.elimination.proofs.groups.gather.Given as goal
 abbrev pub invariant-loop-i : goal.invariant-loop-i
 invariant-loop-i l =
     (enumerate_count (rev_source l.i-iterator) ≡ 0)
-    × Gathering (iter_rest (enumerate_source (rev_source l.i-iterator))) l.side l.joint l.slots l.initial.table.nodes l.initial.table.len l.table.nodes l.table.len l.group
+    × Gathering (iter_rest (enumerate_source (rev_source l.i-iterator))) l.side l.joint l.slots l.initial.table.nodes.items l.table.nodes.items l.group

@@ -1,17 +1,19 @@
-use Rattle.std.proofs.Common.{refl, arith, rules}
+use Rattle.std.proofs.Common.{length, ap, ◌∙◌}
+use Rattle.elimination.specs.Trees.{lower, tree_at}
 use Rattle.elimination.proofs.Falls.{falls_more, tree_same, tree_new}
 use Rattle.elimination.proofs.table.Table.push.Goals as goal
 
 pub invariant_of-self : goal.invariant_of-self
-invariant_of-self c = record {
-  falls = falls_more c.args.self.now.nodes c.args.self.now.len c.args.node c.args.self.now.falls c.requires.falls;
-  fits = omega arith;
-}
+invariant_of-self c =
+    let ns = c.args.self.now.nodes.items in
+    record { falls = ap (lower 0) c.push.ensures.items ∙ falls_more ns c.args.node c.args.self.now.falls c.requires.falls }
 
 pub returns : goal.returns
-returns c = record {
-  value = refl;
-  len = refl;
-  tree = tree_new c.args.self.now.nodes c.args.self.now.len c.args.node c.args.self.now.falls c.requires.falls (search rules);
-  same = λ i h. tree_same c.args.self.now.nodes c.args.self.now.len c.args.node c.args.self.now.falls i h;
-}
+returns c =
+    let ns = c.args.self.now.nodes.items in
+    record {
+      value = c.len-at.ensures.value;
+      len = c.push.ensures.len;
+      tree = ap (λ z. tree_at z (length ns)) c.push.ensures.items ∙ tree_new ns c.args.node c.args.self.now.falls c.requires.falls;
+      same = λ i h. ap (λ z. tree_at z i) c.push.ensures.items ∙ tree_same ns c.args.node c.args.self.now.falls i h;
+    }

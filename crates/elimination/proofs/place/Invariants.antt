@@ -1,5 +1,0 @@
-use Rattle.elimination.specs.Reduction.{Placed}
-use Rattle.elimination.proofs.place.Given as goal
-
-abbrev pub invariant-loop-i : goal.invariant-loop-i
-invariant-loop-i l = Placed l.i l.links l.slots l.table.nodes l.table.len

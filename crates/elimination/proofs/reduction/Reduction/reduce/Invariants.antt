@@ -1,0 +1,12 @@
+use Rattle.std.proofs.Common.{◌≡◌, ◌+◌, length}
+use Rattle.elimination.specs.Slots.{edges, live}
+use Rattle.elimination.specs.Reduction.{Work, left_of}
+use Rattle.elimination.proofs.reduction.Reduction.reduce.Given as goal
+
+abbrev pub invariant-loop-next : goal.invariant-loop-next
+invariant-loop-next l =
+    (l.self.joints ≡ l.initial.self.joints)
+    × Work l.self.joints (length l.initial.self.table.nodes.items + live l.initial.self.slots) (edges l.initial.self.table.nodes.items l.initial.self.slots) l.self.slots l.self.table.nodes.items l.gone
+
+abbrev pub decreases-loop-next : goal.decreases-loop-next
+decreases-loop-next l = left_of l.gone
