@@ -5,59 +5,80 @@ use Rattle.instructions.specs.declared.instruction.Instruction.{Instruction}
 use Rattle.instructions.specs.declared.instruction.Instruction.TheVariants.{AndOpen, OrOpen, Close}
 use Rattle.instructions.specs.Words.{word_of}
 use Rattle.wiring.specs.declared.rung.Contact.{Contact}
-use Rattle.wiring.specs.Circuit.{Circuit, link_at}
+use Rattle.wiring.specs.Circuit.{Circuit, circuit, link_at}
 use Rattle.wiring.specs.Text.{Word, and_open, or_open, close, in_series, in_parallel, link_text, text}
 use Rattle.wiring.specs.Wiring.{Wiring, link, series, parallel, leaves}
 use Rattle.wiring.proofs.Lengths.{text_short}
+use Rattle.elimination.specs.Trees.{tree_at}
+use Rattle.translation.specs.declared.emitters.Emitter.{Emitter}
 use Rattle.translation.specs.declared.emitters.Place.{Place}
 use Rattle.translation.specs.declared.emitters.Place.TheVariants.{First, Later}
 use Rattle.translation.specs.Spelling.{anding, oring, spelled, spell, coiling, coil_words, rung_words}
-use Rattle.translation.specs.Drafts.{series_words, branch_words, series_contact, branch_contact, bracketed, ReadsAt, Room, Adds}
+use Rattle.translation.specs.Drafts.{series_at, branches_at, coils_at, series_words, branch_words, series_contact, branch_contact, bracketed, ReadsAt, Room, Adds}
 
 -- one row of words after another
-pub then_adds : {before us mid vs after : List ℕ} → Adds before us mid → Adds mid vs after → Adds before (us ++ vs) after
-then_adds {before} {us} {mid} {vs} p q = record { is = q.is ∙ ap (λ l. l ++ vs) p.is ∙ append_assoc before us vs }
+pub then_adds : {before mid after : Emitter} {us vs : List ℕ} → Adds before us mid → Adds mid vs after → Adds before (us ++ vs) after
+then_adds {before} {us = us} {vs = vs} p q = record {
+  is = q.is ∙ ap (λ l. l ++ vs) p.is ∙ append_assoc before.draft.items us vs;
+  rung = q.rung ∙ p.rung;
+  table = q.table ∙ p.table;
+}
 
 -- words that are known by another name
-pub adds_as : {before us ws after : List ℕ} → ws ≡ us → Adds before us after → Adds before ws after
-adds_as {before} {us} {ws} {after} e p = subst (λ (l : List ℕ). Adds before l after) (sym e) p
+pub adds_as : {before after : Emitter} {us ws : List ℕ} → ws ≡ us → Adds before us after → Adds before ws after
+adds_as {before} {after} e p = subst (λ (l : List ℕ). Adds before l after) (sym e) p
 
-pub room_as : {before us ws : List ℕ} → ws ≡ us → Room before ws → Room before us
+pub room_as : {before : Emitter} {us ws : List ℕ} → ws ≡ us → Room before ws → Room before us
 room_as {before} e p = subst (λ (l : List ℕ). Room before l) e p
 
 -- room for both is room for each
-pub room-first : {before : List ℕ} (us vs : List ℕ) → Room before (us ++ vs) → Room before us
+room-first : {before : Emitter} (us vs : List ℕ) → Room before (us ++ vs) → Room before us
 room-first us vs p = let h = p.fits in record { fits = omega (arith, length-append us vs) }
 
-pub room_next : {before mid : List ℕ} (us vs : List ℕ) → Room before (us ++ vs) → Adds before us mid → Room mid vs
-room_next {before} us vs p q = let h = p.fits in let e = ap length q.is in record { fits = omega (arith, length-append us vs, length-append before us) }
+room_next : {before mid : Emitter} (us vs : List ℕ) → Room before (us ++ vs) → Adds before us mid → Room mid vs
+room_next {before} us vs p q = let h = p.fits in let e = ap length q.is in record { fits = omega (arith, length-append us vs, length-append before.draft.items us) }
 
--- a row of words that is two rows, one after the other
-pub record InTwo (before ws us vs : List ℕ) : Type 0 where
-  pub first : Room before us
-  pub second : {mid : List ℕ} → Adds before us mid → Room mid vs
-  pub whole : {mid after : List ℕ} → Adds before us mid → Adds mid vs after → Adds before ws after
+-- words that stay the same while words are added
+abbrev pub Steady : (Emitter → List ℕ) → Type 0
+Steady f = (before : Emitter) (us : List ℕ) (after : Emitter) → Adds before us after → f after ≡ f before
 
-pub in_two : {before ws : List ℕ} (us vs : List ℕ) → ws ≡ us ++ vs → Room before ws → InTwo before ws us vs
-in_two us vs e r = record {
-  first = room-first us vs (room_as e r);
-  second = λ p. room_next us vs (room_as e r) p;
-  whole = λ p q. adds_as e (then_adds p q);
+pub steady_series : (place : Place) (at : ℕ) → Steady (λ e. series_at e place at)
+steady_series place at before us after p = λ t. series_words (circuit (p.rung t).now) place (tree_at (p.table t).now.nodes at)
+
+pub steady_branches : (place : Place) (at : ℕ) → Steady (λ e. branches_at e place at)
+steady_branches place at before us after p = λ t. branch_words (circuit (p.rung t).now) place (tree_at (p.table t).now.nodes at)
+
+pub steady_coils : Steady coils_at
+steady_coils before us after p = λ t. coil_words (circuit (p.rung t).now).coils
+
+-- words that are two rows, one after the other
+pub record InTwo (before : Emitter) (ws : List ℕ) (f g : Emitter → List ℕ) : Type 0 where
+  pub first : Room before (f before)
+  pub second : {mid : Emitter} → Adds before (f before) mid → Room mid (g mid)
+  pub whole : {mid after : Emitter} → Adds before (f before) mid → Adds mid (g mid) after → Adds before ws after
+
+pub in_two : {before : Emitter} {ws : List ℕ} (f g : Emitter → List ℕ) → Steady g → ws ≡ f before ++ g before → Room before ws → InTwo before ws f g
+in_two {before} f g steady e r = record {
+  first = room-first (f before) (g before) (room_as e r);
+  second = λ p. room_as (sym (steady _ _ _ p)) (room_next (f before) (g before) (room_as e r) p);
+  whole = λ p q. adds_as e (then_adds p (adds_as (sym (steady _ _ _ p)) q));
 }
 
--- a row of words that is two rows between brackets
-pub record InBrackets (before ws opening us vs closing : List ℕ) : Type 0 where
-  pub outer : InTwo before ws opening (us ++ (vs ++ closing))
-  pub first : {mid : List ℕ} → Adds before opening mid → InTwo mid (us ++ (vs ++ closing)) us (vs ++ closing)
-  pub second : {mid next : List ℕ} → Adds before opening mid → Adds mid us next → InTwo next (vs ++ closing) vs closing
+-- words that are two rows between brackets
+pub record InBrackets (before : Emitter) (ws opening : List ℕ) (f g : Emitter → List ℕ) (closing : List ℕ) : Type 0 where
+  pub outer : InTwo before ws (λ _. opening) (λ e. f e ++ (g e ++ closing))
+  pub first : {mid : Emitter} → Adds before opening mid → InTwo mid (f mid ++ (g mid ++ closing)) f (λ e. g e ++ closing)
+  pub second : {mid next : Emitter} → Adds before opening mid → Adds mid (f mid) next → InTwo next (g next ++ closing) g (λ _. closing)
 
-pub in_brackets : {before ws : List ℕ} (opening us vs closing : List ℕ) → ws ≡ opening ++ (us ++ (vs ++ closing)) → Room before ws → InBrackets before ws opening us vs closing
-in_brackets {before} {ws} opening us vs closing e r =
-    let o : InTwo before ws opening (us ++ (vs ++ closing)) = in_two opening (us ++ (vs ++ closing)) e r in
+pub in_brackets : {before : Emitter} {ws : List ℕ} (opening : List ℕ) (f g : Emitter → List ℕ) (closing : List ℕ) → Steady f → Steady g → ws ≡ opening ++ (f before ++ (g before ++ closing)) → Room before ws → InBrackets before ws opening f g closing
+in_brackets {before} {ws} opening f g closing steady_f steady_g e r =
+    let behind : Steady (λ e. g e ++ closing) = λ b us a p. ap (λ l. l ++ closing) (steady_g b us a p) in
+    let inner : Steady (λ e. f e ++ (g e ++ closing)) = λ b us a p. (λ t. steady_f b us a p t ++ (steady_g b us a p t ++ closing)) in
+    let o : InTwo before ws (λ _. opening) (λ e. f e ++ (g e ++ closing)) = in_two (λ _. opening) (λ e. f e ++ (g e ++ closing)) inner e r in
     record {
       outer = o;
-      first = λ p. in_two us (vs ++ closing) refl (o.second p);
-      second = λ p q. in_two vs closing refl (room_next us (vs ++ closing) (o.second p) q);
+      first = λ {mid} p. in_two f (λ e. g e ++ closing) behind refl (o.second p);
+      second = λ {mid} {next} p q. in_two g (λ _. closing) (λ b us a k. refl) refl ((in_two f (λ e. g e ++ closing) behind refl (o.second p)).second q);
     }
 
 -- how the emitters read a contact
@@ -112,30 +133,44 @@ module _ (c : Circuit) where
   branch_series First a b = bare_around (text link_text a).first (text link_text b).later_and
   branch_series Later a b = bracket_around or_open (text link_text a).first (text link_text b).later_and
 
-  -- the same at a place in a draft
-  pub series_leaf : (place : Place) {w : Wiring ℕ} {i : ℕ} {x : Instruction} → w ≡ link i → x ≡ series_contact place (link_at c i).contact → series_words c place w ≡ word_of x ∷ []
-  series_leaf place {i = i} e q = ap (series_words c place) e ∙ series_link place i ∙ ap (λ j. word_of j ∷ []) (sym q)
+-- the same at a position of an emitter's table
+module _ (e : Emitter) (place : Place) where
+  pub series_leaf : (at i : ℕ) {x : Instruction} → tree_at e.table.now.nodes at ≡ link i → x ≡ series_contact place (link_at (circuit e.rung.now) i).contact → series_at e place at ≡ word_of x ∷ []
+  series_leaf at i tree q = ap (series_words (circuit e.rung.now) place) tree ∙ series_link (circuit e.rung.now) place i ∙ ap (λ j. word_of j ∷ []) (sym q)
 
-  pub branch_leaf : (place : Place) {w : Wiring ℕ} {i : ℕ} {x : Instruction} → w ≡ link i → x ≡ branch_contact place (link_at c i).contact → branch_words c place w ≡ word_of x ∷ []
-  branch_leaf place {i = i} e q = ap (branch_words c place) e ∙ branch_link place i ∙ ap (λ j. word_of j ∷ []) (sym q)
+  pub branch_leaf : (at i : ℕ) {x : Instruction} → tree_at e.table.now.nodes at ≡ link i → x ≡ branch_contact place (link_at (circuit e.rung.now) i).contact → branches_at e place at ≡ word_of x ∷ []
+  branch_leaf at i tree q = ap (branch_words (circuit e.rung.now) place) tree ∙ branch_link (circuit e.rung.now) place i ∙ ap (λ j. word_of j ∷ []) (sym q)
 
-  pub series_in_two : (place : Place) {before : List ℕ} {w a b : Wiring ℕ} → w ≡ series a b → Room before (series_words c place w) → InTwo before (series_words c place w) (series_words c place a) (series_words c Later b)
-  series_in_two place {a = a} {b = b} e r = in_two (series_words c place a) (series_words c Later b) (ap (series_words c place) e ∙ series_series place a b) r
+  module _ (at a b : ℕ) where
+    pub series_in_two : tree_at e.table.now.nodes at ≡ series (tree_at e.table.now.nodes a) (tree_at e.table.now.nodes b) → Room e (series_at e place at) → InTwo e (series_at e place at) (λ x. series_at x place a) (λ x. series_at x Later b)
+    series_in_two tree r =
+        in_two (λ x. series_at x place a) (λ x. series_at x Later b) (steady_series Later b)
+        (ap (series_words (circuit e.rung.now) place) tree ∙ series_series (circuit e.rung.now) place _ _) r
 
-  pub branches_in_two : (place : Place) {before : List ℕ} {w a b : Wiring ℕ} → w ≡ parallel a b → Room before (branch_words c place w) → InTwo before (branch_words c place w) (branch_words c place a) (branch_words c Later b)
-  branches_in_two place {a = a} {b = b} e r = in_two (branch_words c place a) (branch_words c Later b) (ap (branch_words c place) e ∙ branch_parallel place a b) r
+    pub branches_in_two : tree_at e.table.now.nodes at ≡ parallel (tree_at e.table.now.nodes a) (tree_at e.table.now.nodes b) → Room e (branches_at e place at) → InTwo e (branches_at e place at) (λ x. branches_at x place a) (λ x. branches_at x Later b)
+    branches_in_two tree r =
+        in_two (λ x. branches_at x place a) (λ x. branches_at x Later b) (steady_branches Later b)
+        (ap (branch_words (circuit e.rung.now) place) tree ∙ branch_parallel (circuit e.rung.now) place _ _) r
 
-  pub group_in_brackets : (place : Place) {before : List ℕ} {w a b : Wiring ℕ} → w ≡ parallel a b → Room before (series_words c place w) → InBrackets before (series_words c place w) (bracketed place AndOpen) (branch_words c First a) (branch_words c Later b) (bracketed place Close)
-  group_in_brackets place {a = a} {b = b} e r = in_brackets (bracketed place AndOpen) (branch_words c First a) (branch_words c Later b) (bracketed place Close) (ap (series_words c place) e ∙ series_parallel place a b) r
+    pub group_in_brackets : tree_at e.table.now.nodes at ≡ parallel (tree_at e.table.now.nodes a) (tree_at e.table.now.nodes b) → Room e (series_at e place at) → InBrackets e (series_at e place at) (bracketed place AndOpen) (λ x. branches_at x First a) (λ x. branches_at x Later b) (bracketed place Close)
+    group_in_brackets tree r =
+        in_brackets (bracketed place AndOpen) (λ x. branches_at x First a) (λ x. branches_at x Later b) (bracketed place Close) (steady_branches First a) (steady_branches Later b)
+        (ap (series_words (circuit e.rung.now) place) tree ∙ series_parallel (circuit e.rung.now) place _ _) r
 
-  pub series_in_brackets : (place : Place) {before : List ℕ} {w a b : Wiring ℕ} → w ≡ series a b → Room before (branch_words c place w) → InBrackets before (branch_words c place w) (bracketed place OrOpen) (series_words c First a) (series_words c Later b) (bracketed place Close)
-  series_in_brackets place {a = a} {b = b} e r = in_brackets (bracketed place OrOpen) (series_words c First a) (series_words c Later b) (bracketed place Close) (ap (branch_words c place) e ∙ branch_series place a b) r
+    pub series_in_brackets : tree_at e.table.now.nodes at ≡ series (tree_at e.table.now.nodes a) (tree_at e.table.now.nodes b) → Room e (branches_at e place at) → InBrackets e (branches_at e place at) (bracketed place OrOpen) (λ x. series_at x First a) (λ x. series_at x Later b) (bracketed place Close)
+    series_in_brackets tree r =
+        in_brackets (bracketed place OrOpen) (λ x. series_at x First a) (λ x. series_at x Later b) (bracketed place Close) (steady_series First a) (steady_series Later b)
+        (ap (branch_words (circuit e.rung.now) place) tree ∙ branch_series (circuit e.rung.now) place _ _) r
+
+-- the text of a rung's wiring, and then its coils
+pub rung_in_two : (e : Emitter) (root : ℕ) → e.draft.items ≡ [] → length (rung_words (circuit e.rung.now) (tree_at e.table.now.nodes root)) ≤ 200 → InTwo e (rung_words (circuit e.rung.now) (tree_at e.table.now.nodes root)) (λ x. series_at x First root) coils_at
+rung_in_two e root n h = let k = ap length n in in_two (λ x. series_at x First root) coils_at steady_coils refl (record { fits = omega arith })
 
 -- a draft has room for every rung
-pub room_for : (c : Circuit) (w : Wiring ℕ) → length (leaves w) ≡ length c.links → length c.links ≤ 64 → length c.coils ≤ 8 → Room [] (rung_words c w)
+pub room_for : (c : Circuit) (w : Wiring ℕ) → length (leaves w) ≡ length c.links → length c.links ≤ 64 → length c.coils ≤ 8 → length (rung_words c w) ≤ 200
 room_for c w n l k =
     let s = (text_short w).first in
     let a = length-append (spell c (text link_text w).first) (coil_words c.coils) in
     let b = length-map (text link_text w).first (λ x. word_of (spelled c x)) in
     let d = length-map c.coils (λ x. word_of (coiling x)) in
-    record { fits = omega arith }
+    omega arith

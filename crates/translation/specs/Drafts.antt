@@ -7,15 +7,10 @@ use Rattle.wiring.specs.Wiring.{Wiring}
 use Rattle.elimination.specs.Trees.{tree_at}
 use Rattle.instructions.specs.declared.instruction.Instruction.{Instruction}
 use Rattle.instructions.specs.Words.{word_of}
-use Rattle.translation.specs.Spelling.{loading, anding, oring, spell}
-use Rattle.translation.specs.declared.draft.Draft.{Draft}
+use Rattle.translation.specs.Spelling.{loading, anding, oring, spell, coil_words}
 use Rattle.translation.specs.declared.emitters.Emitter.{Emitter}
 use Rattle.translation.specs.declared.emitters.Place.{Place}
 use Rattle.translation.specs.declared.emitters.Place.TheVariants.{First, Later}
-
--- the words drafted
-abbrev pub drafted : Draft → List ℕ
-drafted d = d.words.items
 
 -- the text of a part of a series
 abbrev pub series_text : Place → Text → List Word
@@ -35,12 +30,16 @@ series_words c place w = spell c (series_text place (text link_text w))
 abbrev pub branch_words : Circuit → Place → Wiring ℕ → List ℕ
 branch_words c place w = spell c (branches_text place (text link_text w))
 
--- the words of the part at a position of an emitter's table, as a part of a series and as a part of a branch group
+-- the words of the part at a position of the emitter's table, as a part of a series and as a part of a branch group
 abbrev pub series_at : Emitter → Place → ℕ → List ℕ
 series_at e place at = series_words (circuit e.rung.now) place (tree_at e.table.now.nodes at)
 
 abbrev pub branches_at : Emitter → Place → ℕ → List ℕ
 branches_at e place at = branch_words (circuit e.rung.now) place (tree_at e.table.now.nodes at)
+
+-- the words of the coils
+abbrev pub coils_at : Emitter → List ℕ
+coils_at e = coil_words (circuit e.rung.now).coils
 
 -- how a contact reads: first as a load, and later as the given relation says
 abbrev pub ReadsAt : Place → (Contact → Instruction → Type 0) → Contact → Instruction → Type 0
@@ -61,10 +60,12 @@ abbrev pub bracketed : Place → Instruction → List ℕ
 bracketed First i = []
 bracketed Later i = word_of i ∷ []
 
--- there is room in a draft for so many words more
-pub record Room (before words : List ℕ) : Type 0 where
-  pub fits : length before + length words ≤ 200
+-- there is room in the draft for so many words more
+pub record Room (before : Emitter) (words : List ℕ) : Type 0 where
+  pub fits : length before.draft.items + length words ≤ 200
 
--- words have been added to a draft
-pub record Adds (before words after : List ℕ) : Type 0 where
-  pub is : after ≡ before ++ words
+-- words have been added to the draft
+pub record Adds (before : Emitter) (words : List ℕ) (after : Emitter) : Type 0 where
+  pub is : after.draft.items ≡ before.draft.items ++ words
+  pub rung : after.rung ≡ before.rung
+  pub table : after.table ≡ before.table

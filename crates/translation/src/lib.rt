@@ -2,7 +2,6 @@
 #![tactic(auto)]
 
 mod card;
-mod draft;
 mod emitters;
 mod ladder_fault;
 mod laws;
