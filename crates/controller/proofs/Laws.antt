@@ -1,18 +1,18 @@
 -- The laws over whole runs: which program stands, and what changes points and lent bytes.
-use Rattle.std.proofs.Common.{◌≡◌, ℕ, ◌⊎◌, List, [], ◌∷◌, sym, refl, ap, ◌∙◌, subst, inl, inr}
+use Rattle.std.proofs.Common.{◌≡◌, ℕ, ◌⊎◌, List, [], ◌∷◌, Ok, sym, refl, ap, ◌∙◌, subst, inl, inr}
 use Rattle.signals.specs.Kind.{Kind}
 use Rattle.programs.specs.Counts.{counts}
 use Rattle.controller.specs.declared.call.Call.{Call}
 use Rattle.controller.specs.declared.call.Call.TheVariants.{InstallCard, InstallListing}
 use Rattle.controller.specs.declared.call.Answer.{Answer}
-use Rattle.controller.specs.declared.call.Answer.TheVariants.{Installed}
+use Rattle.controller.specs.declared.call.Answer.TheVariants.{Install}
 use Rattle.controller.specs.Promise.{Origin, State, Happens, card_small, card_refused, card, listing-small, listing_refused, listing, input_small, no_input, input, point_small, no_point, point, scan_small, few_signals, scan, listing_short, listing-written, status_short, status_written, Run, still, onwards}
 use Rattle.controller.specs.Runs.{Event, Installs, NoInstall, NoChange, NoWriting, Throughout, LastInstalled, none, last}
 
 -- what one event makes of the program: nothing, or what its install means
 unfoldable InstalledBy : {S : Type 0} → Origin → Call S → Answer S → Origin → Type 0
 InstalledBy before call answer after =
-    (NoInstall (call, answer) × (after ≡ before)) ⊎ ((numbers : ℕ × ℕ × ℕ × ℕ) × (answer ≡ Installed numbers) × Installs call after)
+    (NoInstall (call, answer) × (after ≡ before)) ⊎ ((numbers : ℕ × ℕ × ℕ × ℕ) × (answer ≡ Install (Ok numbers)) × Installs call after)
 
 module _ {S : Type 0} (k : Kind S) where
   one_program : (s t : State S) (call : Call S) (a : Answer S) → Happens k s call a t → InstalledBy s.program call a t.program

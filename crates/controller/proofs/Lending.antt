@@ -1,38 +1,40 @@
 -- Calls that are lent a part of the working signals or of the bytes.
-use Rattle.std.proofs.Common.{◌≡◌, ℕ, ◌-◌, ◌≤◌, min, List, ◌++◌, length, take, drop, sym, refl, ap, ◌∙◌, subst, append_assoc, arith, length-append, take-append-drop, length-take}
+use Rattle.std.proofs.Common.{◌≡◌, ℕ, ◌≤◌, min, List, ◌++◌, length, take, drop, Ok, Err, Result, sym, refl, ap, ◌∙◌, subst, append_assoc, arith, length-append, take-append-drop, length-take, OnErr}
 use lib.Seq.{drop-append-le}
 use Rattle.signals.specs.Kind.{Kind}
 use Rattle.instructions.specs.Lines as lines
 use Rattle.instructions.specs.Reports.{status_line}
 use Rattle.programs.specs.Counts.{counts}
+use Rattle.controller.specs.declared.refusal.Refusal.{Refusal}
 use Rattle.controller.specs.declared.call.Call.{Call}
 use Rattle.controller.specs.declared.call.Call.TheVariants.{Scan, WriteListing, WriteStatus}
 use Rattle.controller.specs.declared.call.Answer.{Answer}
+use Rattle.controller.specs.declared.call.Answer.TheVariants.{Change}
 use Rattle.controller.specs.declared.controller.Controller.{Controller}
 use Rattle.controller.specs.Promise.{words_of, State, with_text, Happens, listing_short, listing-written, status_short, status_written}
 use Rattle.controller.specs.Runs.{NoScan}
 use Rattle.controller.specs.Standing.{Step, DryStep, lending}
 
 -- a part at the start has as many as were asked for, or all that there are
-pub part_length : {X : Type 0} (xs : List X) (m n : ℕ) → m ≡ min n (length xs) → length (take (m - 0) xs) ≡ min n (length xs)
-part_length xs m n e = let l = length-take (m - 0) xs in omega arith
+part_length : {X : Type 0} (xs : List X) (m n : ℕ) → m ≡ min n (length xs) → length (take m xs) ≡ min n (length xs)
+part_length xs m n e = let l = length-take m xs in omega arith
 
 -- a part put back as it was
-pub part_back : {X : Type 0} (xs ys : List X) (m : ℕ) → ys ≡ take (m - 0) xs → ys ++ drop (m - 0) xs ≡ xs
-part_back xs ys m e = ap (λ zs. zs ++ drop (m - 0) xs) e ∙ take-append-drop (m - 0) xs
+pub part_back : {X : Type 0} (xs ys : List X) (m : ℕ) → ys ≡ take m xs → ys ++ drop m xs ≡ xs
+part_back xs ys m e = ap (λ zs. zs ++ drop m xs) e ∙ take-append-drop m xs
 
 module _ {B S : Type 0} (k : Kind S) (points : B → List S) (c c' : Controller B S) where
-  pub scan_part : (work : List S) (m n : ℕ) (a : Answer S) → m ≡ min n (length work) → DryStep k points c (Scan (length (take (m - 0) work))) a c'
+  pub scan_part : (work : List S) (m n : ℕ) (a : Answer S) → m ≡ min n (length work) → DryStep k points c (Scan (length (take m work))) a c'
       → DryStep k points c (Scan (min n (length work))) a c'
   scan_part work m n a e d = subst (λ (x : ℕ). DryStep k points c (Scan x) a c') (part_length work m n e) d
 
-  -- the call that is made is the call that was given
-  pub as_given : (buffer buffer' : List ℕ) (m n : ℕ) (call call' : Call S) (a : Answer S) → call ≡ call'
-      → Step k points c buffer (lending m n call') a c' buffer' → Step k points c buffer (lending m n call) a c' buffer'
-  as_given buffer buffer' m n call call' a e d = subst (λ (x : Call S). Step k points c buffer (lending m n x) a c' buffer') (sym e) d
+refused : {S : Type 0} (call : Call S) (n : ℕ) (r : Result (Unit {0}) Refusal) (P : Type 0) → call ≡ Scan n → NoScan (call, Change r) → OnErr r P → P
+refused {S = S} call n (Ok u) P e q h = absurd (subst (λ (x : Call S). NoScan (x, Change (Ok u))) e q)
+refused {S = S} call n (Err x) P e q h = h
 
-pub no_scan_given : {S : Type 0} (m n : ℕ) (call call' : Call S) (a : Answer S) → call ≡ call' → NoScan (lending m n call, a) → NoScan (lending m n call', a)
-no_scan_given {S = S} m n call call' a e h = subst (λ (x : Call S). NoScan (lending m n x, a)) e h
+-- what a scan leaves where it is refused
+pub scan_refused : {S : Type 0} (m b n : ℕ) (call : Call S) (r : Result (Unit {0}) Refusal) (P : Type 0) → call ≡ Scan n → NoScan (lending m b call, Change r) → OnErr r P → P
+scan_refused {S = S} m b n call r P e q h = refused (lending m b call) (min n m) r P (ap (λ (x : Call S). lending m b x) e) q h
 
 -- the state with more bytes behind those that are lent
 abbrev grown : {S : Type 0} → State S → List ℕ → State S
@@ -63,15 +65,15 @@ module _ {B S : Type 0} (k : Kind S) (points : B → List S) (c : Controller B S
   -- a writing into a part is one into the whole
   writing_part : (call : ℕ → Call S) → ((s t : State S) (more : List ℕ) (n : ℕ) (a : Answer S) → Happens k s (call n) a t → Happens k (grown s more) (call n) a (grown t more))
       → (buffer after : List ℕ) (m n : ℕ) (a : Answer S) → m ≡ min n (length buffer)
-      → Step k points c (take (m - 0) buffer) (call (length (take (m - 0) buffer))) a c after
-      → Step k points c buffer (call (min n (length buffer))) a c (after ++ drop (m - 0) buffer)
+      → Step k points c (take m buffer) (call (length (take m buffer))) a c after
+      → Step k points c buffer (call (min n (length buffer))) a c (after ++ drop m buffer)
   writing_part call grows buffer after m n a e d s st =
-      let part = take (m - 0) buffer in
-      let more = drop (m - 0) buffer in
+      let part = take m buffer in
+      let more = drop m buffer in
       let s₁ : State S = record { points = s.points; program = s.program; buffer = part } in
       let r = d s₁ (record { points_are = st.points_are; words_are = st.words_are; listed = st.listed; bytes_are = refl }) in
       let whole : grown s₁ more ≡ s =
-      ap (λ (b : List ℕ). record { points = s.points; program = s.program; buffer = b }) (take-append-drop (m - 0) buffer ∙ sym st.bytes_are) in
+      ap (λ (b : List ℕ). record { points = s.points; program = s.program; buffer = b }) (take-append-drop m buffer ∙ sym st.bytes_are) in
       let h = grows s₁ r.0 more (length part) a r.1 in
       let h₁ = subst (λ (x : State S). Happens k x (call (length part)) a (grown r.0 more)) whole h in (
         grown r.0 more,
@@ -85,11 +87,11 @@ module _ {B S : Type 0} (k : Kind S) (points : B → List S) (c : Controller B S
       )
 
   pub listing_part : (buffer after : List ℕ) (m n : ℕ) (a : Answer S) → m ≡ min n (length buffer)
-      → Step k points c (take (m - 0) buffer) (WriteListing (length (take (m - 0) buffer))) a c after
-      → Step k points c buffer (WriteListing (min n (length buffer))) a c (after ++ drop (m - 0) buffer)
+      → Step k points c (take m buffer) (WriteListing (length (take m buffer))) a c after
+      → Step k points c buffer (WriteListing (min n (length buffer))) a c (after ++ drop m buffer)
   listing_part = writing_part (λ n. WriteListing n) (listing-grown k)
 
   pub status_part : (buffer after : List ℕ) (m n : ℕ) (a : Answer S) → m ≡ min n (length buffer)
-      → Step k points c (take (m - 0) buffer) (WriteStatus (length (take (m - 0) buffer))) a c after
-      → Step k points c buffer (WriteStatus (min n (length buffer))) a c (after ++ drop (m - 0) buffer)
+      → Step k points c (take m buffer) (WriteStatus (length (take m buffer))) a c after
+      → Step k points c buffer (WriteStatus (min n (length buffer))) a c (after ++ drop m buffer)
   status_part = writing_part (λ n. WriteStatus n) (status_grown k)

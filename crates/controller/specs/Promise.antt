@@ -27,7 +27,7 @@ use Rattle.controller.specs.declared.install_fault.InstallFault.TheVariants as i
 use Rattle.controller.specs.declared.call.Call.{Call}
 use Rattle.controller.specs.declared.call.Call.TheVariants.{InstallCard, InstallListing, SetInput, ReadPoint, Scan, WriteListing, WriteStatus}
 use Rattle.controller.specs.declared.call.Answer.{Answer}
-use Rattle.controller.specs.declared.call.Answer.TheVariants.{Installed, NotInstalled, Done, Signal, Refused, Wrote, NotWritten}
+use Rattle.controller.specs.declared.call.Answer.TheVariants.{Install, Change, Reading, Writing}
 
 -- a program: the rungs of a card with their words, or the words of a listing
 pub data Origin : Type 0 where
@@ -104,31 +104,31 @@ module _ {S : Type 0} (k : Kind S) where
   -- one call: what it answers and what it leaves; a refusal leaves the state as it was
   pub data Happens : State S → Call S → Answer S → State S → Type 0 where
     -- an install of a card: a small bank is refused first, then a card for its one fault; an accepted card is the program, and its four numbers are answered
-    card_small : (s : State S) (card : Bor (List ℕ)) → Small s → Happens s (InstallCard card) (NotInstalled install.SmallBank) s
-    card_refused : (s : State S) (card : Bor (List ℕ)) (e : LadderFault) → Full s → CardJudged card.now (Err e) → Happens s (InstallCard card) (NotInstalled (install.Card e)) s
-    card : (s t : State S) (card : Bor (List ℕ)) (cs : List Circuit) (words : List ℕ) → Full s → CardAccepted card.now cs words → t ≡ with_program s (from_card cs words) → Happens s (InstallCard card) (Installed (counts words)) t
+    card_small : (s : State S) (card : Bor (List ℕ)) → Small s → Happens s (InstallCard card) (Install (Err install.SmallBank)) s
+    card_refused : (s : State S) (card : Bor (List ℕ)) (e : LadderFault) → Full s → CardJudged card.now (Err e) → Happens s (InstallCard card) (Install (Err (install.Card e))) s
+    card : (s t : State S) (card : Bor (List ℕ)) (cs : List Circuit) (words : List ℕ) → Full s → CardAccepted card.now cs words → t ≡ with_program s (from_card cs words) → Happens s (InstallCard card) (Install (Ok (counts words))) t
     -- an install of a listing, likewise
-    listing-small : (s : State S) (listing : Bor (List ℕ)) → Small s → Happens s (InstallListing listing) (NotInstalled install.SmallBank) s
-    listing_refused : (s : State S) (listing : Bor (List ℕ)) (e : ListingFault) → Full s → verdict listing.now ≡ Err e → Happens s (InstallListing listing) (NotInstalled (install.Listing e)) s
-    listing : (s t : State S) (listing : Bor (List ℕ)) (words : List ℕ) → Full s → ListingAccepted listing.now words → t ≡ with_program s (from-listing words) → Happens s (InstallListing listing) (Installed (counts words)) t
+    listing-small : (s : State S) (listing : Bor (List ℕ)) → Small s → Happens s (InstallListing listing) (Install (Err install.SmallBank)) s
+    listing_refused : (s : State S) (listing : Bor (List ℕ)) (e : ListingFault) → Full s → verdict listing.now ≡ Err e → Happens s (InstallListing listing) (Install (Err (install.Listing e))) s
+    listing : (s t : State S) (listing : Bor (List ℕ)) (words : List ℕ) → Full s → ListingAccepted listing.now words → t ≡ with_program s (from-listing words) → Happens s (InstallListing listing) (Install (Ok (counts words))) t
     -- a setting: inputs go from 0 to 255, and just the one of the number is changed to the signal
-    input_small : (s : State S) (n : ℕ) (x : S) → Small s → Happens s (SetInput n x) (Refused SmallBank) s
-    no_input : (s : State S) (n : ℕ) (x : S) → Full s → 256 ≤ n → Happens s (SetInput n x) (Refused NoSuchPoint) s
-    input : (s t : State S) (n : ℕ) (x : S) → Full s → n < 256 → t ≡ with_points s (slice_set s.points n x) → Happens s (SetInput n x) Done t
+    input_small : (s : State S) (n : ℕ) (x : S) → Small s → Happens s (SetInput n x) (Change (Err SmallBank)) s
+    no_input : (s : State S) (n : ℕ) (x : S) → Full s → 256 ≤ n → Happens s (SetInput n x) (Change (Err NoSuchPoint)) s
+    input : (s t : State S) (n : ℕ) (x : S) → Full s → n < 256 → t ≡ with_points s (slice_set s.points n x) → Happens s (SetInput n x) (Change (Ok tt)) t
     -- a reading answers the signal of its point, and alters nothing
-    point_small : (s : State S) (i : ℕ) → Small s → Happens s (ReadPoint i) (Refused SmallBank) s
-    no_point : (s : State S) (i : ℕ) → Full s → length s.points ≤ i → Happens s (ReadPoint i) (Refused NoSuchPoint) s
-    point : (s : State S) (i : ℕ) (x : S) → Full s → slice_get s.points i ≡ Some x → Happens s (ReadPoint i) (Signal x) s
+    point_small : (s : State S) (i : ℕ) → Small s → Happens s (ReadPoint i) (Reading (Err SmallBank)) s
+    no_point : (s : State S) (i : ℕ) → Full s → length s.points ≤ i → Happens s (ReadPoint i) (Reading (Err NoSuchPoint)) s
+    point : (s : State S) (i : ℕ) (x : S) → Full s → slice_get s.points i ≡ Some x → Happens s (ReadPoint i) (Reading (Ok x)) s
     -- a scan: 15 working signals have to be lent
-    scan_small : (s : State S) (lent : ℕ) → Small s → Happens s (Scan lent) (Refused SmallBank) s
-    few_signals : (s : State S) (lent : ℕ) → Full s → lent < 15 → Happens s (Scan lent) (Refused FewSignals) s
-    scan : (s t : State S) (lent : ℕ) → Full s → 15 ≤ lent → Scanned s.program s.points t.points → t ≡ with_points s t.points → Happens s (Scan lent) Done t
+    scan_small : (s : State S) (lent : ℕ) → Small s → Happens s (Scan lent) (Change (Err SmallBank)) s
+    few_signals : (s : State S) (lent : ℕ) → Full s → lent < 15 → Happens s (Scan lent) (Change (Err FewSignals)) s
+    scan : (s t : State S) (lent : ℕ) → Full s → 15 ≤ lent → Scanned s.program s.points t.points → t ≡ with_points s t.points → Happens s (Scan lent) (Change (Ok tt)) t
     -- a writing of the listing: the text stands at the start of the lent bytes and its length is answered, or so many bytes are too few
-    listing_short : (s : State S) (lent : ℕ) (e : ShortBuffer) → lent ≤ length s.buffer → lent < length (lines.listing (words_of s.program)) → Happens s (WriteListing lent) (NotWritten e) s
-    listing-written : (s t : State S) (lent : ℕ) → lent ≤ length s.buffer → length (lines.listing (words_of s.program)) ≤ lent → t ≡ with_text s (lines.listing (words_of s.program)) → Happens s (WriteListing lent) (Wrote (length (lines.listing (words_of s.program)))) t
+    listing_short : (s : State S) (lent : ℕ) (e : ShortBuffer) → lent ≤ length s.buffer → lent < length (lines.listing (words_of s.program)) → Happens s (WriteListing lent) (Writing (Err e)) s
+    listing-written : (s t : State S) (lent : ℕ) → lent ≤ length s.buffer → length (lines.listing (words_of s.program)) ≤ lent → t ≡ with_text s (lines.listing (words_of s.program)) → Happens s (WriteListing lent) (Writing (Ok (length (lines.listing (words_of s.program))))) t
     -- a writing of the status line, likewise
-    status_short : (s : State S) (lent : ℕ) (e : ShortBuffer) → lent ≤ length s.buffer → lent < length (status_line (counts (words_of s.program))) → Happens s (WriteStatus lent) (NotWritten e) s
-    status_written : (s t : State S) (lent : ℕ) → lent ≤ length s.buffer → length (status_line (counts (words_of s.program))) ≤ lent → t ≡ with_text s (status_line (counts (words_of s.program))) → Happens s (WriteStatus lent) (Wrote (length (status_line (counts (words_of s.program))))) t
+    status_short : (s : State S) (lent : ℕ) (e : ShortBuffer) → lent ≤ length s.buffer → lent < length (status_line (counts (words_of s.program))) → Happens s (WriteStatus lent) (Writing (Err e)) s
+    status_written : (s t : State S) (lent : ℕ) → lent ≤ length s.buffer → length (status_line (counts (words_of s.program))) ≤ lent → t ≡ with_text s (status_line (counts (words_of s.program))) → Happens s (WriteStatus lent) (Writing (Ok (length (status_line (counts (words_of s.program)))))) t
 
   -- a whole run: each call happens where the one before it left the state
   pub data Run : State S → List (Call S × Answer S) → State S → Type 0 where

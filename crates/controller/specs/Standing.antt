@@ -4,12 +4,9 @@ use Rattle.signals.specs.Kind.{Kind}
 use Rattle.instructions.specs.declared.report.ShortBuffer.{ShortBuffer}
 use Rattle.programs.specs.Programs.{held}
 use Rattle.scanning.specs.Listings.{Listings}
-use Rattle.controller.specs.declared.refusal.Refusal.{Refusal}
-use Rattle.controller.specs.declared.install_fault.InstallFault.{InstallFault}
 use Rattle.controller.specs.declared.call.Call.{Call}
 use Rattle.controller.specs.declared.call.Call.TheVariants.{InstallCard, InstallListing, SetInput, ReadPoint, Scan, WriteListing, WriteStatus}
 use Rattle.controller.specs.declared.call.Answer.{Answer}
-use Rattle.controller.specs.declared.call.Answer.TheVariants.{Installed, NotInstalled, Done, Signal, Refused, Wrote, NotWritten}
 use Rattle.controller.specs.declared.controller.Controller.{Controller}
 use Rattle.controller.specs.Promise.{Origin, from_card, from-listing, words_of, State, Happens, Run}
 use Rattle.controller.specs.Runs.{Event, NoScan, NoChange, NoWriting, Throughout, LastInstalled}
@@ -33,26 +30,6 @@ Step {S = S} k points c buffer call answer c' buffer' = (s : State S) → Stands
 -- a call that is lent no bytes: any bytes stay
 abbrev pub DryStep : {B S : Type 0} → Kind S → (B → List S) → Controller B S → Call S → Answer S → Controller B S → Type 0
 DryStep k points c call answer c' = (buffer : List ℕ) → Step k points c buffer call answer c' buffer
-
--- the answer to an install
-abbrev pub installing : {S : Type 0} → Result (ℕ × ℕ × ℕ × ℕ) InstallFault → Answer S
-installing (Ok numbers) = Installed numbers
-installing (Err e) = NotInstalled e
-
--- the answer to a setting or a scan
-abbrev pub doing : {S U : Type 0} → Result U Refusal → Answer S
-doing (Ok u) = Done
-doing (Err e) = Refused e
-
--- the answer to a reading
-abbrev pub reading : {S : Type 0} → Result S Refusal → Answer S
-reading (Ok x) = Signal x
-reading (Err e) = Refused e
-
--- the answer to a writing
-abbrev pub writing : {S : Type 0} → Result ℕ ShortBuffer → Answer S
-writing (Ok n) = Wrote n
-writing (Err e) = NotWritten e
 
 -- a call that is lent so many of some working signals and of some bytes, or all that there are
 abbrev pub lending : {S : Type 0} → ℕ → ℕ → Call S → Call S

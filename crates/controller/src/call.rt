@@ -20,18 +20,15 @@ pub enum Call<'a, S> {
     WriteStatus(usize),
 }
 
-/// What a call answers.
+/// What a call answers: what the method of that call returned.
 #[derive(Clone, Copy)]
 pub enum Answer<S> {
-    /// Rungs, words, greatest depth, and the first rung with that depth.
-    Installed((usize, usize, usize, usize)),
-    NotInstalled(InstallFault),
-    /// The input is set, or the scan is done.
-    Done,
-    /// The signal of a point.
-    Signal(S),
-    Refused(Refusal),
-    /// How many bytes were written.
-    Wrote(usize),
-    NotWritten(ShortBuffer),
+    /// To an install: rungs, words, greatest depth, and the first rung with that depth.
+    Install(Result<(usize, usize, usize, usize), InstallFault>),
+    /// To a setting or a scan.
+    Change(Result<(), Refusal>),
+    /// To a reading: the signal of the point.
+    Reading(Result<S, Refusal>),
+    /// To a writing: how many bytes were written.
+    Writing(Result<usize, ShortBuffer>),
 }

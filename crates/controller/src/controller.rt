@@ -1,10 +1,11 @@
 //! The controller, and its calls.
-ghost use Rattle.std.specs.Prelude.{◌≡◌, ℕ, List, length, OnErr};
+ghost use Rattle.std.specs.Prelude.{◌≡◌, ℕ, ◌<◌, ◌≤◌, List, length, MatchResult, OnErr};
 ghost use Rattle.controller.specs.declared.call.Call.TheVariants.{InstallCard, InstallListing, SetInput, ReadPoint, Scan, WriteListing, WriteStatus};
-ghost use Rattle.controller.specs.Standing.{Stands, Step, DryStep, made, installing, doing, reading, writing};
+ghost use Rattle.controller.specs.declared.call.Answer.TheVariants.{Install, Change, Reading, Writing};
+ghost use Rattle.controller.specs.Standing.{Stands, Step, DryStep, made};
 
 use super::install_fault::InstallFault;
-use super::refusal::Refusal;
+use super::refusal::{Refusal, SmallBank};
 use banks::Bank;
 use instructions::{ShortBuffer, Store};
 use listings::read_into;
@@ -44,7 +45,18 @@ impl<B: Bank> Controller<B> {
     pub fn into_bank(self) -> B
         ensures { result ≡ self.bank }
     {
+        // The program and the room for staging are let go.
         self.bank
+    }
+
+    /// That the bank counts all points.
+    fn whole_bank(&self) -> Result<(), SmallBank>
+        ensures { MatchResult result (λ _. 768 ≤ length (B.points self.now.bank)) (λ _. length (B.points self.now.bank) < 768) }
+    {
+        if self.bank.count() < 768 {
+            return Err(SmallBank);
+        }
+        Ok(())
     }
 
     /// Installs the program of a card, and answers rungs, words, greatest depth and the first rung with that depth.
@@ -52,14 +64,11 @@ impl<B: Bank> Controller<B> {
         &mut self,
         card: &[u8],
     ) -> Result<(usize, usize, usize, usize), InstallFault>
-        ensures step { DryStep B.Kind.Signal.kind B.points self.old (InstallCard card.entry) (installing result) self.new }
+        ensures step { DryStep B.Kind.Signal.kind B.points self.old (InstallCard card.entry) (Install result) self.new }
         ensures bank { self.new.bank ≡ self.old.bank }
     {
-        if self.bank.count() < 768 {
-            return Err(InstallFault::SmallBank);
-        }
-        let numbers = take_card(card, &mut self.staged, &mut self.program)?;
-        Ok(numbers)
+        self.whole_bank()?;
+        Ok(take_card(card, &mut self.staged, &mut self.program)?)
     }
 
     /// Installs the program that a listing says, and answers rungs, words, greatest depth and the first rung with that depth.
@@ -67,25 +76,20 @@ impl<B: Bank> Controller<B> {
         &mut self,
         listing: &[u8],
     ) -> Result<(usize, usize, usize, usize), InstallFault>
-        ensures step { DryStep B.Kind.Signal.kind B.points self.old (InstallListing listing.entry) (installing result) self.new }
+        ensures step { DryStep B.Kind.Signal.kind B.points self.old (InstallListing listing.entry) (Install result) self.new }
         ensures bank { self.new.bank ≡ self.old.bank }
     {
-        if self.bank.count() < 768 {
-            return Err(InstallFault::SmallBank);
-        }
-        let numbers = read_into(listing, &mut self.program)?;
-        Ok(numbers)
+        self.whole_bank()?;
+        Ok(read_into(listing, &mut self.program)?)
     }
 
     /// Sets the input of a number.
     pub fn set_input(&mut self, number: usize, signal: B::Kind) -> Result<(), Refusal>
-        ensures step { DryStep B.Kind.Signal.kind B.points self.old (SetInput number signal) (doing result) self.new }
+        ensures step { DryStep B.Kind.Signal.kind B.points self.old (SetInput number signal) (Change result) self.new }
         ensures stays { B.seat self.new.bank ≡ B.seat self.old.bank }
         ensures untouched { B.rest self.new.bank ≡ B.rest self.old.bank }
     {
-        if self.bank.count() < 768 {
-            return Err(Refusal::SmallBank);
-        }
+        self.whole_bank()?;
         if number >= 256 {
             return Err(Refusal::NoSuchPoint);
         }
@@ -95,42 +99,34 @@ impl<B: Bank> Controller<B> {
 
     /// Reads the point at an index.
     pub fn read_point(&self, index: usize) -> Result<B::Kind, Refusal>
-        ensures { DryStep B.Kind.Signal.kind B.points self.now (ReadPoint index) (reading result) self.now }
+        ensures { DryStep B.Kind.Signal.kind B.points self.now (ReadPoint index) (Reading result) self.now }
     {
-        if self.bank.count() < 768 {
-            return Err(Refusal::SmallBank);
-        }
-        match self.bank.read(index) {
-            Some(signal) => Ok(signal),
-            None => Err(Refusal::NoSuchPoint),
-        }
+        self.whole_bank()?;
+        self.bank.read(index).ok_or(Refusal::NoSuchPoint)
     }
 
     /// Scans the program once over at least 15 working signals, which hold any signals afterwards.
     pub fn scan(&mut self, work: &mut [B::Kind]) -> Result<(), Refusal>
-        ensures step { DryStep B.Kind.Signal.kind B.points self.old (Scan (length work.old)) (doing result) self.new }
+        ensures step { DryStep B.Kind.Signal.kind B.points self.old (Scan (length work.old)) (Change result) self.new }
         ensures work { OnErr result (work.new ≡ work.old) }
         ensures stays { B.seat self.new.bank ≡ B.seat self.old.bank }
         ensures untouched { B.rest self.new.bank ≡ B.rest self.old.bank }
     {
         // The bank is tested before the working signals.
-        if self.bank.count() < 768 {
-            return Err(Refusal::SmallBank);
-        }
-        scan(&self.program, work, &mut self.bank)?;
-        Ok(())
+        self.whole_bank()?;
+        Ok(scan(&self.program, work, &mut self.bank)?)
     }
 
     /// Writes the listing of the program: its length is answered, later bytes stay.
     pub fn write_listing(&self, buffer: &mut [u8]) -> Result<usize, ShortBuffer>
-        ensures { Step B.Kind.Signal.kind B.points self.now buffer.old (WriteListing (length buffer.old)) (writing result) self.now buffer.new }
+        ensures { Step B.Kind.Signal.kind B.points self.now buffer.old (WriteListing (length buffer.old)) (Writing result) self.now buffer.new }
     {
         self.program.write_listing(buffer)
     }
 
     /// Writes the status line: its length is answered, later bytes stay.
     pub fn write_status(&self, buffer: &mut [u8]) -> Result<usize, ShortBuffer>
-        ensures { Step B.Kind.Signal.kind B.points self.now buffer.old (WriteStatus (length buffer.old)) (writing result) self.now buffer.new }
+        ensures { Step B.Kind.Signal.kind B.points self.now buffer.old (WriteStatus (length buffer.old)) (Writing result) self.now buffer.new }
     {
         self.program.write_status(buffer)
     }

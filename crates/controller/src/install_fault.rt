@@ -1,9 +1,10 @@
 //! Why an install is refused.
 ghost use Rattle.std.specs.Prelude.{◌≡◌};
-ghost use Rattle.controller.specs.declared.install_fault.InstallFault.TheVariants.{Card, Listing};
+ghost use Rattle.controller.specs.declared.install_fault.InstallFault.TheVariants.{SmallBank, Card, Listing};
 ghost use Rattle.instructions.specs.Reports.{refusal_line, Written};
 ghost use Rattle.controller.specs.Refusals.{install_number, install_rung, install_place};
 
+use super::refusal::SmallBank;
 use instructions::{ShortBuffer, write_refusal};
 use listings::ListingFault;
 use translation::LadderFault;
@@ -58,6 +59,14 @@ impl InstallFault {
         ensures { Written (refusal_line (install_number self) (install_rung self) (install_place self)) buffer.old result buffer.new }
     {
         write_refusal(self.number(), self.rung(), self.place(), buffer)
+    }
+}
+
+impl From<SmallBank> for InstallFault {
+    ghost from_gives = { λ _ r. r ≡ SmallBank };
+
+    fn from(_fault: SmallBank) -> InstallFault {
+        InstallFault::SmallBank
     }
 }
 

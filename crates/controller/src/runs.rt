@@ -1,8 +1,7 @@
 //! Whole runs.
-ghost use Rattle.std.specs.Prelude.{◌≡◌, ◌≤◌, min, length, MatchResult};
-ghost use Rattle.controller.specs.declared.call.Call.TheVariants.{Scan, WriteListing, WriteStatus};
+ghost use Rattle.std.specs.Prelude.{◌≡◌, length, MatchResult};
 ghost use Rattle.controller.specs.Runs.{NoScan};
-ghost use Rattle.controller.specs.Standing.{Step, DryStep, lending, given, Performs, Declined, Operated};
+ghost use Rattle.controller.specs.Standing.{Step, lending, given, Performs, Declined, Operated};
 
 use super::call::{Answer, Call};
 use super::controller::Controller;
@@ -62,30 +61,13 @@ impl<B: Bank> Controller<B> {
         if answers.len() < calls.len() {
             return Err(ShortBuffer);
         }
-        self.perform_all(calls, work, buffer, answers);
+        for (i, call) in calls.iter().enumerate() {
+            answers[i] = self.answer(call, work, buffer);
+        }
         Ok(())
     }
 
-    fn perform_all(
-        &mut self,
-        calls: &[Call<'_, B::Kind>],
-        work: &mut [B::Kind],
-        buffer: &mut [u8],
-        answers: &mut [Answer<B::Kind>],
-    )
-        requires { length calls.now ≤ length answers.old }
-        ensures run { Performs B.Kind.Signal.kind B.points self.old calls.now
-            (given work.old buffer.old answers.old)
-            (given work.new buffer.new answers.new) self.new }
-        ensures stays { B.seat self.new.bank ≡ B.seat self.old.bank }
-        ensures untouched { B.rest self.new.bank ≡ B.rest self.old.bank }
-    {
-        for i in 0..calls.len() {
-            answers[i] = self.answer(&calls[i], work, buffer);
-        }
-    }
-
-    /// Performs one call.
+    /// Performs one call: it is lent as many of the working signals or bytes as it wants, or all that there are.
     fn answer(
         &mut self,
         call: &Call<'_, B::Kind>,
@@ -97,62 +79,25 @@ impl<B: Bank> Controller<B> {
         ensures stays { B.seat self.new.bank ≡ B.seat self.old.bank }
         ensures untouched { B.rest self.new.bank ≡ B.rest self.old.bank }
     {
+        let signals = work.len();
+        let bytes = buffer.len();
         match *call {
-            Call::InstallCard(card) => match self.install_card(card) {
-                Ok(numbers) => Answer::Installed(numbers),
-                Err(fault) => Answer::NotInstalled(fault),
-            },
-            Call::InstallListing(listing) => match self.install_listing(listing) {
-                Ok(numbers) => Answer::Installed(numbers),
-                Err(fault) => Answer::NotInstalled(fault),
-            },
-            Call::SetInput(number, signal) => match self.set_input(number, signal) {
-                Ok(()) => Answer::Done,
-                Err(refusal) => Answer::Refused(refusal),
-            },
-            Call::ReadPoint(index) => match self.read_point(index) {
-                Ok(signal) => Answer::Signal(signal),
-                Err(refusal) => Answer::Refused(refusal),
-            },
-            Call::Scan(lent) => self.scan_lent(lent, work),
-            Call::WriteListing(lent) => self.list_lent(lent, buffer),
-            Call::WriteStatus(lent) => self.status_lent(lent, buffer),
-        }
-    }
-
-    /// Scans with so many of the working signals, or all that there are.
-    fn scan_lent(&mut self, lent: usize, work: &mut [B::Kind]) -> Answer<B::Kind>
-        ensures step { DryStep B.Kind.Signal.kind B.points self.old (Scan (min lent (length work.old))) result self.new }
-        ensures work { NoScan (Scan (min lent (length work.old)), result) → work.new ≡ work.old }
-        ensures stays { B.seat self.new.bank ≡ B.seat self.old.bank }
-        ensures untouched { B.rest self.new.bank ≡ B.rest self.old.bank }
-    {
-        let size = lent.min(work.len());
-        match self.scan(&mut work[0..size]) {
-            Ok(()) => Answer::Done,
-            Err(refusal) => Answer::Refused(refusal),
-        }
-    }
-
-    /// Writes the listing into so many of the bytes, or all that there are.
-    fn list_lent(&self, lent: usize, buffer: &mut [u8]) -> Answer<B::Kind>
-        ensures { Step B.Kind.Signal.kind B.points self.now buffer.old (WriteListing (min lent (length buffer.old))) result self.now buffer.new }
-    {
-        let size = lent.min(buffer.len());
-        match self.write_listing(&mut buffer[0..size]) {
-            Ok(length) => Answer::Wrote(length),
-            Err(short) => Answer::NotWritten(short),
-        }
-    }
-
-    /// Writes the status line into so many of the bytes, or all that there are.
-    fn status_lent(&self, lent: usize, buffer: &mut [u8]) -> Answer<B::Kind>
-        ensures { Step B.Kind.Signal.kind B.points self.now buffer.old (WriteStatus (min lent (length buffer.old))) result self.now buffer.new }
-    {
-        let size = lent.min(buffer.len());
-        match self.write_status(&mut buffer[0..size]) {
-            Ok(length) => Answer::Wrote(length),
-            Err(short) => Answer::NotWritten(short),
+            Call::InstallCard(card) => Answer::Install(self.install_card(card)),
+            Call::InstallListing(listing) => Answer::Install(self.install_listing(listing)),
+            Call::SetInput(number, signal) => Answer::Change(self.set_input(number, signal)),
+            Call::ReadPoint(index) => Answer::Reading(self.read_point(index)),
+            Call::Scan(wanted) => {
+                let part = &mut work[..wanted.min(signals)];
+                Answer::Change(self.scan(part))
+            }
+            Call::WriteListing(wanted) => {
+                let part = &mut buffer[..wanted.min(bytes)];
+                Answer::Writing(self.write_listing(part))
+            }
+            Call::WriteStatus(wanted) => {
+                let part = &mut buffer[..wanted.min(bytes)];
+                Answer::Writing(self.write_status(part))
+            }
         }
     }
 }

@@ -1,93 +1,26 @@
-use Rattle.std.proofs.Common.{refl, ap}
-use Rattle.controller.proofs.Lending.{as_given, no_scan_given}
+use Rattle.controller.proofs.Lending.{scan_part, part_back, scan_refused, listing_part, status_part}
 use Rattle.controller.proofs.controller.Controller.answer.Goals as goal
 
-pub returns-in-Ok : goal.returns-in-Ok
-returns-in-Ok g c =
-    let h = c.in-Ok.ensures in
-    record {
-      step = as_given _ _ _ _ _ _ _ _ _ _ _ c.in-InstallCard.is (h.step c.args.buffer.now);
-      work = λ _. refl;
-      stays = ap g.B.Bank.seat h.bank;
-      untouched = ap g.B.Bank.rest h.bank;
-    }
+pub returns-in-InstallCard-clause-step : goal.returns-in-InstallCard-clause-step
+returns-in-InstallCard-clause-step g c = rw c.in-InstallCard.is (c.install_card.ensures.step c.args.buffer.now)
 
-pub returns-in-Err : goal.returns-in-Err
-returns-in-Err g c =
-    let h = c.in-Err.ensures in
-    record {
-      step = as_given _ _ _ _ _ _ _ _ _ _ _ c.in-InstallCard.is (h.step c.args.buffer.now);
-      work = λ _. refl;
-      stays = ap g.B.Bank.seat h.bank;
-      untouched = ap g.B.Bank.rest h.bank;
-    }
+pub returns-in-InstallListing-clause-step : goal.returns-in-InstallListing-clause-step
+returns-in-InstallListing-clause-step g c = rw c.in-InstallListing.is (c.install_listing.ensures.step c.args.buffer.now)
 
-pub returns-in-Ok-install_listing : goal.returns-in-Ok-install_listing
-returns-in-Ok-install_listing g c =
-    let h = c.in-Ok-install_listing.ensures in
-    record {
-      step = as_given _ _ _ _ _ _ _ _ _ _ _ c.in-InstallListing.is (h.step c.args.buffer.now);
-      work = λ _. refl;
-      stays = ap g.B.Bank.seat h.bank;
-      untouched = ap g.B.Bank.rest h.bank;
-    }
+pub returns-in-SetInput-clause-step : goal.returns-in-SetInput-clause-step
+returns-in-SetInput-clause-step g c = rw c.in-SetInput.is (c.set_input.ensures.step c.args.buffer.now)
 
-pub returns-in-Err-install_listing : goal.returns-in-Err-install_listing
-returns-in-Err-install_listing g c =
-    let h = c.in-Err-install_listing.ensures in
-    record {
-      step = as_given _ _ _ _ _ _ _ _ _ _ _ c.in-InstallListing.is (h.step c.args.buffer.now);
-      work = λ _. refl;
-      stays = ap g.B.Bank.seat h.bank;
-      untouched = ap g.B.Bank.rest h.bank;
-    }
+pub returns-in-ReadPoint-clause-step : goal.returns-in-ReadPoint-clause-step
+returns-in-ReadPoint-clause-step g c = rw c.in-ReadPoint.is (c.read_point.ensures c.args.buffer.now)
 
-pub returns-in-Ok-set_input : goal.returns-in-Ok-set_input
-returns-in-Ok-set_input g c =
-    let h = c.in-Ok-set_input.ensures in
-    record {
-      step = as_given _ _ _ _ _ _ _ _ _ _ _ c.in-SetInput.is (h.step c.args.buffer.now);
-      work = λ _. refl;
-      stays = h.stays;
-      untouched = h.untouched;
-    }
+pub returns-in-Scan-clause-step : goal.returns-in-Scan-clause-step
+returns-in-Scan-clause-step g c = rw c.in-Scan.is (scan_part _ _ _ _ c.args.work.now _ _ _ c.min.ensures c.scan.ensures.step c.args.buffer.now)
 
-pub returns-in-Err-set_input : goal.returns-in-Err-set_input
-returns-in-Err-set_input g c =
-    let h = c.in-Err-set_input.ensures in
-    record {
-      step = as_given _ _ _ _ _ _ _ _ _ _ _ c.in-SetInput.is (h.step c.args.buffer.now);
-      work = λ _. refl;
-      stays = h.stays;
-      untouched = h.untouched;
-    }
+pub returns-in-Scan-clause-work : goal.returns-in-Scan-clause-work
+returns-in-Scan-clause-work g c = λ q. part_back c.args.work.now _ _ (scan_refused _ _ _ _ c.scan.result _ c.in-Scan.is q c.scan.ensures.work)
 
-pub returns-in-Ok-read_point : goal.returns-in-Ok-read_point
-returns-in-Ok-read_point g c =
-    let h = c.in-Ok-read_point.ensures in
-    record {
-      step = as_given _ _ _ _ _ _ _ _ _ _ _ c.in-ReadPoint.is (h c.args.buffer.now);
-      work = λ _. refl;
-      stays = refl;
-      untouched = refl;
-    }
+pub returns-in-WriteListing-clause-step : goal.returns-in-WriteListing-clause-step
+returns-in-WriteListing-clause-step g c = rw c.in-WriteListing.is (listing_part _ _ _ c.args.buffer.now _ _ _ _ c.min-in-WriteListing.ensures c.write_listing.ensures)
 
-pub returns-in-Err-read_point : goal.returns-in-Err-read_point
-returns-in-Err-read_point g c =
-    let h = c.in-Err-read_point.ensures in
-    record {
-      step = as_given _ _ _ _ _ _ _ _ _ _ _ c.in-ReadPoint.is (h c.args.buffer.now);
-      work = λ _. refl;
-      stays = refl;
-      untouched = refl;
-    }
-
-pub returns-in-Scan : goal.returns-in-Scan
-returns-in-Scan g c =
-    let h = c.scan_lent.ensures in
-    record {
-      step = as_given _ _ _ _ _ _ _ _ _ _ _ c.in-Scan.is (h.step c.args.buffer.now);
-      work = λ q. h.work (no_scan_given _ _ _ _ _ c.in-Scan.is q);
-      stays = h.stays;
-      untouched = h.untouched;
-    }
+pub returns-in-WriteStatus-clause-step : goal.returns-in-WriteStatus-clause-step
+returns-in-WriteStatus-clause-step g c = rw c.in-WriteStatus.is (status_part _ _ _ c.args.buffer.now _ _ _ _ c.min-in-WriteStatus.ensures c.write_status.ensures)
