@@ -13,13 +13,9 @@ fn point_of(area: u16, number: u16) -> Option<Point>
     requires { number < 256 }
     ensures { result ≡ point_of area number }
 {
-    match Area::from_code(area) {
-        None => None,
-        Some(area) => Some(Point {
-            area,
-            number: number as u8,
-        }),
-    }
+    let number = number as u8;
+    let area = Area::try_from(area).ok()?;
+    Some(Point { area, number })
 }
 
 fn wire_of(area: u16, number: u16) -> Option<Contact>

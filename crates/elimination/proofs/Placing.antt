@@ -92,12 +92,6 @@ placed-more i links l ns ns' at P small within ok q n t same =
 pub placed-all : (c : Circuit) (links : List Link) (l : List (Option Active)) (ns : List Node) → c.links ≡ links → Placed (length links) links l ns → edges ns l ≡ first-edges c (length c.links)
 placed-all c links l ns e P = P.edges_are c e ∙ ap (λ k. first-edges c (length k)) (sym e)
 
--- the slice of a drawn rung's links that is placed
-pub slice_is : (r : Rung) → (circuit r).links ≡ take (r.link_count - 0) r.links
-slice_is r = let z : r.link_count ≡ r.link_count - 0 = omega arith in ap (λ k. take k r.links) z
-
-pub slice_few : (r : Rung) → length (take (r.link_count - 0) r.links) ≤ 64
-slice_few r = let h = length-take (r.link_count - 0) r.links in let m = r.most_links in omega arith
-
-pub slice_loopless : (r : Rung) → Loopless (take (r.link_count - 0) r.links)
-slice_loopless r i h = (linked-at r.joints (take (r.link_count - 0) r.links) (sym (ap (linked r.joints) (slice_is r)) ∙ r.linked) i h).apart
+-- the ends of a drawn rung's links differ
+pub rung_loopless : (r : Rung) → Loopless r.links.items
+rung_loopless r i h = (linked-at r.joints r.links.items r.linked i h).apart

@@ -48,10 +48,9 @@ impl Reduction {
         ensures joints { result.joints ≡ rung.now.joints }
         ensures placed { Placed (length (circuit rung.now).links) (circuit rung.now).links result.slots result.table.nodes.items }
     {
-        let links = &rung.links[0..rung.link_count as usize];
         let mut table = Table::new();
         let mut slots = [None; 64];
-        for (i, link) in links.iter().enumerate() {
+        for (i, link) in rung.links.iter().enumerate() {
             let at = table.push(Node::Link(i as u8));
             slots[i] = Some(Active {
                 from: link.from,

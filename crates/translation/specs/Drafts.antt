@@ -32,10 +32,10 @@ branch_words c place w = spell c (branches_text place (text link_text w))
 
 -- the words of the part at a position of the emitter's table, as a part of a series and as a part of a branch group
 abbrev pub series_at : Emitter → Place → ℕ → List ℕ
-series_at e place at = series_words (circuit e.rung.now) place (tree_at e.table.now.nodes at)
+series_at e place at = series_words (circuit e.rung.now) place (tree_at e.table.now.nodes.items at)
 
 abbrev pub branches_at : Emitter → Place → ℕ → List ℕ
-branches_at e place at = branch_words (circuit e.rung.now) place (tree_at e.table.now.nodes at)
+branches_at e place at = branch_words (circuit e.rung.now) place (tree_at e.table.now.nodes.items at)
 
 -- the words of the coils
 abbrev pub coils_at : Emitter → List ℕ

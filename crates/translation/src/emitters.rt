@@ -35,8 +35,8 @@ struct Emitter<'a> {
 
 /// The words of a rung: the text of its wiring, and then its coils.
 pub(crate) fn draft_of(rung: &Rung, table: &Table, root: u8) -> ArrayVec<u16, 200>
-    requires { length (rung_words (circuit rung.now) (tree_at table.now.nodes root)) ≤ 200 }
-    ensures { result.items ≡ rung_words (circuit rung.now) (tree_at table.now.nodes root) }
+    requires { length (rung_words (circuit rung.now) (tree_at table.now.nodes.items root)) ≤ 200 }
+    ensures { result.items ≡ rung_words (circuit rung.now) (tree_at table.now.nodes.items root) }
 {
     let mut emitter = Emitter {
         rung,
@@ -53,7 +53,7 @@ impl Emitter<'_> {
         requires { Room self.old (word_of instruction ∷ []) }
         ensures { Adds self.old (word_of instruction ∷ []) self.new }
     {
-        self.draft.push(instruction.word());
+        self.draft.push(u16::from(instruction));
     }
 
     /// Writes a bracket, which only a later part has.
@@ -72,8 +72,7 @@ impl Emitter<'_> {
         requires { Room self.old (coils_at self.old) }
         ensures { Adds self.old (coils_at self.old) self.new }
     {
-        let rung = self.rung;
-        for each in &rung.coils[..rung.coil_count as usize] {
+        for each in &self.rung.coils {
             self.push(coil(*each));
         }
     }
@@ -82,7 +81,8 @@ impl Emitter<'_> {
     fn contact(&self, link: u8) -> Contact
         ensures { result ≡ (link_at (circuit self.now.rung.now) link).contact }
     {
-        self.rung.links[..self.rung.link_count as usize]
+        self.rung
+            .links
             .get(link as usize)
             .map_or(Contact::Wire, |link| link.contact)
     }

@@ -19,5 +19,5 @@ coils-requires c =
 pub returns : goal.returns
 returns c =
     let e : Emitter = record { rung = c.args.rung; table = c.args.table; draft = c.new.result } in
-    let w = rung_words (circuit c.args.rung.now) (tree_at c.args.table.now.nodes c.args.root) in
+    let w = rung_words (circuit c.args.rung.now) (tree_at c.args.table.now.nodes.items c.args.root) in
     ((rung_in_two e c.args.root c.new.ensures c.requires).whole c.series.ensures c.coils.ensures).is ∙ ap (λ (l : List ℕ). l ++ w) c.new.ensures

@@ -1,5 +1,4 @@
 use Rattle.std.proofs.Common.{◌≡◌, ℕ, Some, Option, subst, arith}
-use Rattle.std.proofs.lemmas.List.{length-take}
 use Rattle.elimination.specs.Answer.{Answer}
 use Rattle.elimination.specs.Trees.{tree_at}
 use Rattle.wiring.specs.Circuit.{circuit}
@@ -9,9 +8,7 @@ use Rattle.translation.proofs.rung.translate.Goals as goal
 pub draft_of-draft-requires : goal.draft_of-draft-requires
 draft_of-draft-requires c =
     let r = c.args.rung.now in
-    let l = length-take r.link_count r.links in
-    let k = length-take r.coil_count r.coils in
     let d = c.decompose in
     let found : d.result ≡ Some c.in_ok-root.root = cc (c.ok_or.ensures.ok_part, c.in_ok-root.was) in
-    let a : Answer (circuit r) d.new.table.nodes d.new.table.len (Some c.in_ok-root.root) = subst (λ (o : Option ℕ). Answer (circuit r) d.new.table.nodes d.new.table.len o) found d.ensures in
-    room_for (circuit r) (tree_at d.new.table.nodes c.in_ok-root.root) a.leaf_count (omega arith) (omega arith)
+    let a : Answer (circuit r) d.new.table.nodes.items (Some c.in_ok-root.root) = subst (λ (o : Option ℕ). Answer (circuit r) d.new.table.nodes.items o) found d.ensures in
+    room_for (circuit r) (tree_at d.new.table.nodes.items c.in_ok-root.root) a.leaf_count (omega arith) (omega arith)

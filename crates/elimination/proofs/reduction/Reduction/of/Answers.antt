@@ -1,5 +1,6 @@
-use Rattle.std.proofs.Common.{length, refl, ap, arith}
-use Rattle.elimination.proofs.Placing.{placed-none, placed-more, slice_loopless}
+use Rattle.std.proofs.Common.{length, refl, sym, ap, subst, arith}
+use Rattle.elimination.specs.Reduction.{Loopless}
+use Rattle.elimination.proofs.Placing.{placed-none, placed-more, rung_loopless}
 use Rattle.elimination.proofs.reduction.Reduction.of.Goals as goal
 
 pub loop-i-init : goal.loop-i-init
@@ -7,4 +8,4 @@ loop-i-init c = placed-none _ _ _ refl (ap length c.new-table.ensures) refl
 
 pub loop-i-preserved : goal.loop-i-preserved
 loop-i-preserved c =
-    placed-more c.loop-i.i _ c.loop-i.slots c.loop-i.table.nodes.items c.push-at.new.self.nodes.items c.push-at.result c.loop-i.invariant (omega arith) c.loop-i-test.true (slice_loopless c.args.rung.now) c.push-at.ensures.value c.push-at.ensures.len c.push-at.ensures.tree c.push-at.ensures.same
+    placed-more c.loop-i.i _ c.loop-i.slots c.loop-i.table.nodes.items c.push-at.new.self.nodes.items c.push-at.result c.loop-i.invariant (omega arith) c.loop-i-test.true (subst Loopless (sym c.deref-link-items.ensures.0) (rung_loopless c.args.rung.now)) c.push-at.ensures.value c.push-at.ensures.len c.push-at.ensures.tree c.push-at.ensures.same

@@ -2,4 +2,4 @@ use Rattle.elimination.specs.Reduction.{Placed}
 use Rattle.elimination.proofs.reduction.Reduction.of.Given as goal
 
 abbrev pub invariant-loop-i : goal.invariant-loop-i
-invariant-loop-i l = Placed l.i l.links l.slots l.table.nodes.items
+invariant-loop-i l = Placed l.i l.link-items l.slots l.table.nodes.items
