@@ -35,7 +35,7 @@ module _ (c : Circuit) (two : 2 ≤ c.joints) (range : InRange c) where
   starts_so : (A : List Edge) → A ≡ first-edges c (length c.links) → Starts c A
   starts_so A e = subst (λ z. Starts c z) (sym e) (tidy_start c).1
 
-  pub answer_found : (total : ℕ) (A : List Edge) (l : List (Option Active)) (ns : List Node) (ns' : List Node) (h : Group) → A ≡ first-edges c (length c.links) → total ≡ length c.links + length c.links → Reduced c.joints total A l ns → Gathered 0 (map (touch Leaving 0) l) ns ns' (Some h) → Answer c ns' (Some h.at)
+  pub answer_found : (total : ℕ) (A : List Edge) (l : List (Option Active)) (ns ns' : List Node) (h : Group) → A ≡ first-edges c (length c.links) → total ≡ length c.links + length c.links → Reduced c.joints total A l ns → Gathered 0 (map (touch Leaving 0) l) ns ns' (Some h) → Answer c ns' (Some h.at)
   answer_found total A l ns ns' h e n D G =
       let B = edges ns l in
       let st = straight-all (c.joints - 1) ns l D.direct in
@@ -53,7 +53,7 @@ module _ (c : Circuit) (two : 2 ≤ c.joints) (range : InRange c) where
         leaf_count = leaf_count c (tree_at ns' h.at) R;
       }
 
-  pub answer_none : (total : ℕ) (A : List Edge) (l : List (Option Active)) (ns : List Node) (ns' : List Node) → A ≡ first-edges c (length c.links) → Reduced c.joints total A l ns → Gathered 0 (map (touch Leaving 0) l) ns ns' None → Answer c ns' None
+  pub answer_none : (total : ℕ) (A : List Edge) (l : List (Option Active)) (ns ns' : List Node) → A ≡ first-edges c (length c.links) → Reduced c.joints total A l ns → Gathered 0 (map (touch Leaving 0) l) ns ns' None → Answer c ns' None
   answer_none total A l ns ns' e D G r =
       let B = edges ns l in
       let st = straight-all (c.joints - 1) ns l D.direct in

@@ -1,6 +1,8 @@
 -- The active edges by their slots.
 use Rattle.std.proofs.Common.{◌≡◌, ℕ, zero, suc, ◌+◌, ◌<◌, Bool, true, false, cond, ◌||◌, eqb, ◌≢◌, ◌⊎◌, ◌↔◌, List, [], ◌∷◌, map, length, get_or, set, Some, None, Option, sym, refl, ap, ◌∙◌, subst, ap₂, inl, inr, ⊎_elim, arith}
 use Rattle.std.proofs.lemmas.Bool.Decides.{eqb_tells}
+use Rattle.std.proofs.Math.ListN.{get_or-map}
+use Rattle.std.proofs.lemmas.Option.{none-some}
 use Rattle.wiring.specs.Elimination.{Edge, low_of, Rising}
 use Rattle.wiring.specs.Lists.{In}
 use Rattle.wiring.specs.Text.{link_text, text}
@@ -12,10 +14,7 @@ use Rattle.elimination.specs.declared.table.Node.{Node}
 use Rattle.elimination.specs.Groups.{Grown}
 use Rattle.elimination.specs.Slots.{edge, edges, live, near_of, touch, spared, low_at, Stands}
 
--- empty and filled slots
-pub none_some : {X : Type 0} {x : X} → None ≡ Some x → ⊥
-none_some e = let z : ◌≡◌ {A = ℕ} 0 1 = cc in omega arith
-
+-- filled slots
 pub some_same : {X : Type 0} {x y : X} → Some x ≡ Some y → x ≡ y
 some_same e = cc
 
@@ -41,8 +40,8 @@ in_edges ns (Some a ∷ l) e (inl p) = record { slot = zero; active = a; filled 
 in_edges ns (Some a ∷ l) e (inr i) = let r = in_edges ns l e i in record { slot = suc r.slot; active = r.active; filled = r.filled; is = r.is }
 
 pub edges_in : (ns : List Node) (l : List (Option Active)) (k : ℕ) (a : Active) → get_or l k None ≡ Some a → In (edge ns a) (edges ns l)
-edges_in ns [] k a h = absurd (none_some h)
-edges_in ns (None ∷ l) zero a h = absurd (none_some h)
+edges_in ns [] k a h = absurd (none-some _ h)
+edges_in ns (None ∷ l) zero a h = absurd (none-some _ h)
 edges_in ns (None ∷ l) (suc k) a h = edges_in ns l k a h
 edges_in ns (Some b ∷ l) zero a h = inl (ap (edge ns) (sym (some_same h)))
 edges_in ns (Some b ∷ l) (suc k) a h = inr (edges_in ns l k a h)
@@ -65,16 +64,11 @@ pub rising_edges : (ns : List Node) (l : List (Option Active)) → Stands ns l �
 rising_edges ns l S = rising_from ns l 0 (λ k a h. let p = (S k a h).low in omega arith)
 
 -- the slots that touch a joint
-get_or-touch : (s : Side) (x : ℕ) (l : List (Option Active)) (k : ℕ) → get_or (map (touch s x) l) k None ≡ touch s x (get_or l k None)
-get_or-touch s x [] k = refl
-get_or-touch s x (o ∷ l) zero = refl
-get_or-touch s x (o ∷ l) (suc k) = get_or-touch s x l k
-
 touched_at : (n x : ℕ) (a c : Active) → cond (eqb n x) (Some a) None ≡ Some c → n ≡ x
-touched_at n x a c e = ⊎_elim (λ p. p.1) (λ p. absurd (none_some (sym (ap (λ b. cond b (Some a) None) p.0) ∙ e))) (eqb_tells n x)
+touched_at n x a c e = ⊎_elim (λ p. p.1) (λ p. absurd (none-some _ (sym (ap (λ b. cond b (Some a) None) p.0) ∙ e))) (eqb_tells n x)
 
 pub touch_near : (s : Side) (x : ℕ) (o : Option Active) (a : Active) → touch s x o ≡ Some a → near_of s a ≡ x
-touch_near s x None a e = absurd (none_some e)
+touch_near s x None a e = absurd (none-some _ e)
 touch_near s x (Some c) a e = ap (near_of s) (sym (some_same (touch_some s x (Some c) a e))) ∙ touched_at (near_of s c) x c a e
 
 touch-back : (s : Side) (x : ℕ) (o : Option Active) (a : Active) → o ≡ Some a → near_of s a ≡ x → touch s x o ≡ Some a
@@ -93,7 +87,7 @@ pub in_touch : (s : Side) (x : ℕ) (ns : List Node) (l : List (Option Active)) 
 in_touch s x ns l e = (
   λ i.
       let m = in_edges ns (map (touch s x) l) e i in
-      let t = sym (get_or-touch s x l m.slot) ∙ m.filled in (
+      let t = sym (get_or-map (touch s x) l m.slot None) ∙ m.filled in (
         subst (λ z. In z (edges ns l)) (sym m.is) (edges_in ns l m.slot m.active (touch_some s x (get_or l m.slot None) m.active t)),
         ap (near_end s) m.is ∙ near_edge s ns m.active ∙ touch_near s x (get_or l m.slot None) m.active t,
       ),
@@ -101,17 +95,11 @@ in_touch s x ns l e = (
       let m = in_edges ns l e p.0 in
       let n : near_of s m.active ≡ x = sym (near_edge s ns m.active) ∙ ap (near_end s) (sym m.is) ∙ p.1 in
       subst (λ z. In z (edges ns (map (touch s x) l))) (sym m.is)
-      (edges_in ns (map (touch s x) l) m.slot m.active (get_or-touch s x l m.slot ∙ touch-back s x (get_or l m.slot None) m.active m.filled n)),
+      (edges_in ns (map (touch s x) l) m.slot m.active (get_or-map (touch s x) l m.slot None ∙ touch-back s x (get_or l m.slot None) m.active m.filled n)),
 )
 
 pub rising_touch : (s : Side) (x : ℕ) (ns : List Node) (l : List (Option Active)) → Stands ns l → Rising (edges ns (map (touch s x) l))
-rising_touch s x ns l S = rising_from ns (map (touch s x) l) 0 (λ k a h. let p = (S k a (touch_some s x (get_or l k None) a (sym (get_or-touch s x l k) ∙ h))).low in omega arith)
-
--- the slots that do not touch it
-pub get_or-spared : (x : ℕ) (l : List (Option Active)) (k : ℕ) → get_or (map (spared x) l) k None ≡ spared x (get_or l k None)
-get_or-spared x [] k = refl
-get_or-spared x (o ∷ l) zero = refl
-get_or-spared x (o ∷ l) (suc k) = get_or-spared x l k
+rising_touch s x ns l S = rising_from ns (map (touch s x) l) 0 (λ k a h. let p = (S k a (touch_some s x (get_or l k None) a (sym (get_or-map (touch s x) l k None) ∙ h))).low in omega arith)
 
 -- the slot o, and its edge does not touch x
 pub record Spared (x : ℕ) (o : Option Active) (a : Active) : Type 0 where
@@ -120,12 +108,12 @@ pub record Spared (x : ℕ) (o : Option Active) (a : Active) : Type 0 where
   pub not_to : a.to ≢ x
 
 pub spared_some : (x : ℕ) (o : Option Active) (a : Active) → spared x o ≡ Some a → Spared x o a
-spared_some x None a e = absurd (none_some e)
+spared_some x None a e = absurd (none-some _ e)
 spared_some x (Some c) a e =
     ⊎_elim
-    (λ p. absurd (none_some (sym (ap (λ b. cond (b || eqb c.to x) None (Some c)) p.0) ∙ e)))
+    (λ p. absurd (none-some _ (sym (ap (λ b. cond (b || eqb c.to x) None (Some c)) p.0) ∙ e)))
     (λ p. ⊎_elim
-    (λ q. absurd (none_some (sym (ap₂ (λ b d. cond (b || d) None (Some c)) p.0 q.0) ∙ e)))
+    (λ q. absurd (none-some _ (sym (ap₂ (λ b d. cond (b || d) None (Some c)) p.0 q.0) ∙ e)))
     (λ q.
     let h : c ≡ a = some_same (sym (ap₂ (λ b d. cond (b || d) None (Some c)) p.0 q.0) ∙ e) in
     record { same = ap Some h; not_from = λ k. p.1 (ap (λ z. z.from) h ∙ k); not_to = λ k. q.1 (ap (λ z. z.to) h ∙ k) })
@@ -175,28 +163,28 @@ live_parts x ns l S = live_split x l (λ k a h. (S k a h).apart)
 pub live-set : (l : List (Option Active)) (k : ℕ) (a : Active) → k < length l → get_or l k None ≡ None → live (set l k (Some a)) ≡ suc (live l)
 live-set [] k a h e = absurd (omega arith)
 live-set (None ∷ l) zero a h e = refl
-live-set (Some b ∷ l) zero a h e = absurd (none_some (sym e))
+live-set (Some b ∷ l) zero a h e = absurd (none-some _ (sym e))
 live-set (None ∷ l) (suc k) a h e = live-set l k a (omega arith) e
 live-set (Some b ∷ l) (suc k) a h e = ap suc (live-set l k a (omega arith) e)
 
 abbrev pub edge-between : ℕ → ℕ → Wiring ℕ → Edge
 edge-between u w t = record { from = u; to = w; tree = t }
 
-pub edge-grown : (ns : List Node) (ns' : List Node) → Grown ns ns' → (a : Active) → a.at < length ns → edge ns' a ≡ edge ns a
+pub edge-grown : (ns ns' : List Node) → Grown ns ns' → (a : Active) → a.at < length ns → edge ns' a ≡ edge ns a
 edge-grown ns ns' G a h = ap (edge-between a.from a.to) (G.same a.at h)
 
 -- what stands in a table stands in one that has grown
-pub stands_grown : (ns : List Node) (ns' : List Node) (l : List (Option Active)) → Grown ns ns' → Stands ns l → Stands ns' l
+pub stands_grown : (ns ns' : List Node) (l : List (Option Active)) → Grown ns ns' → Stands ns l → Stands ns' l
 stands_grown ns ns' l G S k a h =
     let f = S k a h in
     let p = f.at in let m = G.more in
     record { at = omega arith; low = ap (λ t. (text link_text t).low) (G.same a.at p) ∙ f.low; apart = f.apart }
 
-pub edges-grown : (ns : List Node) (ns' : List Node) → Grown ns ns' → (l : List (Option Active)) → ((k : ℕ) (a : Active) → get_or l k None ≡ Some a → a.at < length ns) → edges ns' l ≡ edges ns l
+pub edges-grown : (ns ns' : List Node) → Grown ns ns' → (l : List (Option Active)) → ((k : ℕ) (a : Active) → get_or l k None ≡ Some a → a.at < length ns) → edges ns' l ≡ edges ns l
 edges-grown ns ns' G [] f = refl
 edges-grown ns ns' G (None ∷ l) f = edges-grown ns ns' G l (λ k. f (suc k))
 edges-grown ns ns' G (Some a ∷ l) f = ap₂ ◌∷◌ (edge-grown ns ns' G a (f zero a refl)) (edges-grown ns ns' G l (λ k. f (suc k)))
 
-pub touch-grown : (s : Side) (x : ℕ) (ns : List Node) (ns' : List Node) (l : List (Option Active)) → Grown ns ns' → Stands ns l → edges ns' (map (touch s x) l) ≡ edges ns (map (touch s x) l)
+pub touch-grown : (s : Side) (x : ℕ) (ns ns' : List Node) (l : List (Option Active)) → Grown ns ns' → Stands ns l → edges ns' (map (touch s x) l) ≡ edges ns (map (touch s x) l)
 touch-grown s x ns ns' l G S =
-    edges-grown ns ns' G (map (touch s x) l) (λ k a h. (S k a (touch_some s x (get_or l k None) a (sym (get_or-touch s x l k) ∙ h))).at)
+    edges-grown ns ns' G (map (touch s x) l) (λ k a h. (S k a (touch_some s x (get_or l k None) a (sym (get_or-map (touch s x) l k None) ∙ h))).at)

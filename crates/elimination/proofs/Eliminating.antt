@@ -1,6 +1,7 @@
 -- An elimination in the slots is a step.
 use Rattle.std.proofs.Common.{◌≡◌, ℕ, ◌+◌, ◌<◌, ◌≢◌, ◌⊎◌, ◌↔◌, List, map, length, get_or, set, Some, None, Option, sym, refl, ap, ◌∙◌, subst, ap₂, inl, inr, ⊎_elim, arith}
 use native.Mathlib.Decide.{ℕ_discrete}
+use Rattle.std.proofs.Math.ListN.{get_or-map}
 use Rattle.std.proofs.lemmas.List.{get_or-set_same, get_or-set_other, length-map}
 use Rattle.wiring.specs.Elimination.{Edge, low_of, combined, Eligible, Step}
 use Rattle.wiring.specs.Lists.{In}
@@ -14,7 +15,7 @@ use Rattle.elimination.specs.declared.table.Node.{Node}
 use Rattle.elimination.specs.Groups.{Merged}
 use Rattle.elimination.specs.Reduction.{Eliminated}
 use Rattle.elimination.specs.Slots.{edge, edges, live, touch, spared, Fine, Stands}
-use Rattle.elimination.proofs.Edges.{some_same, in_edges, edges_in, rising_edges, in_touch, rising_touch, get_or-spared, Spared, spared_some, spared-back, live_parts, live-set, edge-between, edge-grown, stands_grown}
+use Rattle.elimination.proofs.Edges.{some_same, in_edges, edges_in, rising_edges, in_touch, rising_touch, Spared, spared_some, spared-back, live_parts, live-set, edge-between, edge-grown, stands_grown}
 
 module _ (x u w : ℕ) (ns : List Node) (l : List (Option Active)) (S : Stands ns l) (E : Eligible (edges ns l) x u w) where
   into_list : List Edge
@@ -58,7 +59,7 @@ module _ (x u w : ℕ) (ns : List Node) (l : List (Option Active)) (S : Stands n
 
     elsewhere : (k : ℕ) → k ≢ h.low → get_or after k None ≡ spared x (get_or l k None)
     unfolding after
-    elsewhere k n = get_or-set_other (map (spared x) l) h.low k (Some new) None n ∙ get_or-spared x l k
+    elsewhere k n = get_or-set_other (map (spared x) l) h.low k (Some new) None n ∙ get_or-map (spared x) l k None
 
     -- the slot of the new edge was that of an edge of x, or empty
     free : (k : ℕ) (a : Active) → get_or l k None ≡ Some a → a.from ≢ x → a.to ≢ x → k ≢ h.low
@@ -112,7 +113,7 @@ module _ (x u w : ℕ) (ns : List Node) (l : List (Option Active)) (S : Stands n
     counted : length ns' + live after ≡ length ns + live l
     unfolding after
     counted =
-        let a = live-set (map (spared x) l) h.low new fits (get_or-spared x l h.low ∙ empty (spared x (get_or l h.low None)) (λ a. spared_some x (get_or l h.low None) a)) in
+        let a = live-set (map (spared x) l) h.low new fits (get_or-map (spared x) l h.low None ∙ empty (spared x (get_or l h.low None)) (λ a. spared_some x (get_or l h.low None) a)) in
         let b = live_parts x ns l S in
         let c = M.room in
         omega arith

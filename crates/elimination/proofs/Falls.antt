@@ -1,5 +1,6 @@
 -- In a table whose children lie lower, a position has the wiring of its node.
-use Rattle.std.proofs.Common.{◌≡◌, ℕ, zero, suc, ◌+◌, ◌<◌, Bool, true, false, ◌&&◌, List, [], ◌∷◌, ◌++◌, length, get_or, sym, refl, ap, ◌∙◌, subst, add-zero, zero-add, arith}
+use Rattle.std.proofs.Common.{◌≡◌, ℕ, zero, suc, ◌+◌, ◌<◌, true, List, [], ◌∷◌, ◌++◌, length, get_or, sym, refl, ap, ◌∙◌, subst, add-zero, zero-add, arith}
+use Rattle.std.proofs.lemmas.Bool.{and_parts, and_from}
 use Rattle.std.proofs.lemmas.Bool.Decides.{nat_tests}
 use Rattle.std.proofs.lemmas.List.{get_or_append_left}
 use Rattle.std.proofs.Math.Seq.{get_or-append_seam}
@@ -8,25 +9,13 @@ use Rattle.elimination.specs.declared.table.Node.{Node}
 use Rattle.elimination.specs.declared.table.Node.TheVariants.{Link, Series, Parallel}
 use Rattle.elimination.specs.Trees.{below, Under, lower, formed, tree_of, tree_at}
 
-and_left : (a b : Bool) → (a && b) ≡ true → a ≡ true
-and_left true b e = refl
-and_left false b e = e
-
-and_right : (a b : Bool) → (a && b) ≡ true → b ≡ true
-and_right true b e = e
-and_right false b e = grind (arith, nat_tests)
-
-both : (a b : Bool) → a ≡ true → b ≡ true → (a && b) ≡ true
-both true b p q = q
-both false b p q = p
-
 -- the test at each position
 lower-at : (ns : List Node) (j i : ℕ) → lower j ns ≡ true → below (j + i) (get_or ns i (Link 0)) ≡ true
 lower-at [] j i e = refl
-lower-at (n ∷ ns) j zero e = subst (λ k. below k n ≡ true) (sym (add-zero j)) (and_left _ _ e)
+lower-at (n ∷ ns) j zero e = subst (λ k. below k n ≡ true) (sym (add-zero j)) (and_parts _ _ e).0
 lower-at (n ∷ ns) j (suc i) e =
     let q : suc j + i ≡ j + suc i = omega arith in
-    subst (λ k. below k (get_or ns i (Link 0)) ≡ true) q (lower-at ns (suc j) i (and_right _ _ e))
+    subst (λ k. below k (get_or ns i (Link 0)) ≡ true) q (lower-at ns (suc j) i (and_parts _ _ e).1)
 
 pub below_at : (ns : List Node) (i : ℕ) → lower 0 ns ≡ true → below i (get_or ns i (Link 0)) ≡ true
 below_at ns i e = subst (λ k. below k (get_or ns i (Link 0)) ≡ true) (zero-add i) (lower-at ns 0 i e)
@@ -70,10 +59,10 @@ made i (Series a b) u = grind (arith, nat_tests)
 made i (Parallel a b) u = grind (arith, nat_tests)
 
 lower-push : (ns : List Node) (j : ℕ) (n : Node) → lower j ns ≡ true → below (j + length ns) n ≡ true → lower j (ns ++ (n ∷ [])) ≡ true
-lower-push [] j n e h = both _ _ (subst (λ k. below k n ≡ true) (add-zero j) h) refl
+lower-push [] j n e h = and_from _ _ (subst (λ k. below k n ≡ true) (add-zero j) h) refl
 lower-push (m ∷ ns) j n e h =
     let q : j + length (m ∷ ns) ≡ suc j + length ns = omega arith in
-    both _ _ (and_left _ _ e) (lower-push ns (suc j) n (and_right _ _ e) (subst (λ k. below k n ≡ true) q h))
+    and_from _ _ (and_parts _ _ e).0 (lower-push ns (suc j) n (and_parts _ _ e).1 (subst (λ k. below k n ≡ true) q h))
 
 pub falls_more : (ns : List Node) (n : Node) → lower 0 ns ≡ true → Under (length ns) n → lower 0 (ns ++ (n ∷ [])) ≡ true
 falls_more ns n e u = lower-push ns 0 n e (subst (λ k. below k n ≡ true) (sym (zero-add (length ns))) (made (length ns) n u))

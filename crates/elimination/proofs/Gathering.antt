@@ -18,13 +18,13 @@ use Rattle.elimination.proofs.Edges.{touch_some}
 pub grown-same : (ns : List Node) → Grown ns ns
 grown-same ns = record { more = omega arith; same = λ i h. refl }
 
-pub grown_on : {ns : List Node} {ns1 : List Node} {ns2 : List Node} → Grown ns ns1 → Grown ns1 ns2 → Grown ns ns2
+pub grown_on : {ns ns1 ns2 : List Node} → Grown ns ns1 → Grown ns1 ns2 → Grown ns ns2
 grown_on p q = record { more = (let a = p.more in let b = q.more in omega arith); same = λ i h. q.same i (let a = p.more in omega arith) ∙ p.same i h }
 
-low_grown : {ns : List Node} {ns' : List Node} → Grown ns ns' → (i : ℕ) → i < length ns → low_at ns' i ≡ low_at ns i
+low_grown : {ns ns' : List Node} → Grown ns ns' → (i : ℕ) → i < length ns → low_at ns' i ≡ low_at ns i
 low_grown p i h = ap (λ t. (text link_text t).low) (p.same i h)
 
-holds_grown : (j j' : ℕ) (ns : List Node) (ns' : List Node) → Grown ns ns' → j' ≤ j → (L : List Edge) (r : Option Group) → Holds j ns L r → Holds j' ns' L r
+holds_grown : (j j' : ℕ) (ns ns' : List Node) → Grown ns ns' → j' ≤ j → (L : List Edge) (r : Option Group) → Holds j ns L r → Holds j' ns' L r
 holds_grown j j' ns ns' p h [] None u = tt
 holds_grown j j' ns ns' p h [] (Some g) u = u
 holds_grown j j' ns ns' p h (e ∷ L) None u = u
@@ -42,13 +42,13 @@ unfolding in_series
 low_series a b = refl
 
 -- the first edge of a group, and one edge more
-holds_first : (i : ℕ) (ns : List Node) (ns1 : List Node) (ns2 : List Node) (a : Active) (L : List Edge) → Fine ns i a → i < 64 → Grown ns ns2 → Holds (i + 1) ns1 L None → Holds i ns2 (edge ns a ∷ L) (Some (record { at = a.at; low = i }))
+holds_first : (i : ℕ) (ns ns1 ns2 : List Node) (a : Active) (L : List Edge) → Fine ns i a → i < 64 → Grown ns ns2 → Holds (i + 1) ns1 L None → Holds i ns2 (edge ns a ∷ L) (Some (record { at = a.at; low = i }))
 holds_first i ns ns1 ns2 a [] f h p u =
     let k = f.at in let m = p.more in
     (omega arith, p.same a.at k, low_grown p a.at k ∙ f.low, omega arith, h)
 holds_first i ns ns1 ns2 a (e ∷ L) f h p u = absurd u
 
-holds_more : (i : ℕ) (ns : List Node) (ns1 : List Node) (ns2 : List Node) (a : Active) (L : List Edge) (h : Group) → Fine ns i a → i < 64 → Grown ns ns1 → length ns2 ≡ length ns1 + 1 → tree_at ns2 (length ns1) ≡ parallel (tree_at ns1 a.at) (tree_at ns1 h.at) → Holds (i + 1) ns1 L (Some h) → Holds i ns2 (edge ns a ∷ L) (Some (record { at = length ns1; low = i }))
+holds_more : (i : ℕ) (ns ns1 ns2 : List Node) (a : Active) (L : List Edge) (h : Group) → Fine ns i a → i < 64 → Grown ns ns1 → length ns2 ≡ length ns1 + 1 → tree_at ns2 (length ns1) ≡ parallel (tree_at ns1 a.at) (tree_at ns1 h.at) → Holds (i + 1) ns1 L (Some h) → Holds i ns2 (edge ns a ∷ L) (Some (record { at = length ns1; low = i }))
 holds_more i ns ns1 ns2 a [] h f l p n t u = absurd u
 holds_more i ns ns1 ns2 a (e ∷ L) h f l p n t u =
     let k = f.at in
@@ -59,7 +59,7 @@ holds_more i ns ns1 ns2 a (e ∷ L) h f l p n t u =
     (omega arith, t ∙ ap₂ parallel (p.same a.at k) u.1, omega arith, omega arith, l)
 
 -- one slot more
-pub gathered_more : (i : ℕ) (o : Option Active) (l : List (Option Active)) (ns : List Node) (ns1 : List Node) (ns2 : List Node) (g r : Option Group) → ((a : Active) → o ≡ Some a → Fine ns i a) → i < 64 → Gathered (i + 1) l ns ns1 g → Grown ns1 ns2 → Extends i ns1 ns2 o g r → Gathered i (o ∷ l) ns ns2 r
+pub gathered_more : (i : ℕ) (o : Option Active) (l : List (Option Active)) (ns ns1 ns2 : List Node) (g r : Option Group) → ((a : Active) → o ≡ Some a → Fine ns i a) → i < 64 → Gathered (i + 1) l ns ns1 g → Grown ns1 ns2 → Extends i ns1 ns2 o g r → Gathered i (o ∷ l) ns ns2 r
 gathered_more i None l ns ns1 ns2 g r f h G p x =
     let q = ap size x.0 in let n = x.1 in let m = G.room in
     record {
@@ -83,7 +83,7 @@ gathered_more i (Some a) l ns ns1 ns2 (Some k) r f h G p x =
     }
 
 -- the scan from the last slot to the first stands behind these slots, and has gathered the later ones
-pub record Gathering (before : List (Option Active)) (s : Side) (x : ℕ) (xs : List (Option Active)) (ns : List Node) (ns' : List Node) (g : Option Group) : Type 0 where
+pub record Gathering (before : List (Option Active)) (s : Side) (x : ℕ) (xs : List (Option Active)) (ns ns' : List Node) (g : Option Group) : Type 0 where
   pub whole : before ++ drop (length before) xs ≡ xs
   pub done : Gathered (length before) (map (touch s x) (drop (length before) xs)) ns ns' g
 
@@ -96,7 +96,7 @@ gathering_none before s x xs ns e =
           (record { grown = grown-same ns; room = refl; group = tt });
     }
 
-pub gathering_all : (before : List (Option Active)) (s : Side) (x : ℕ) (xs : List (Option Active)) (ns : List Node) (ns' : List Node) (g : Option Group) → length before ≡ 0 → Gathering before s x xs ns ns' g → Gathered 0 (map (touch s x) xs) ns ns' g
+pub gathering_all : (before : List (Option Active)) (s : Side) (x : ℕ) (xs : List (Option Active)) (ns ns' : List Node) (g : Option Group) → length before ≡ 0 → Gathering before s x xs ns ns' g → Gathered 0 (map (touch s x) xs) ns ns' g
 gathering_all before s x xs ns ns' g e G = subst (λ n. Gathered n (map (touch s x) (drop n xs)) ns ns' g) e G.done
 
 -- one slot back: it is the slot at its position
@@ -120,7 +120,7 @@ back before left t xs e w =
       within = omega arith;
     }
 
-pub gathering_more : (before left : List (Option Active)) (t : Option Active) (i : ℕ) (s : Side) (x : ℕ) (xs : List (Option Active)) (ns : List Node) (ns1 : List Node) (ns2 : List Node) (o : Option Active) (g r : Option Group) → before ≡ left ++ (t ∷ []) → i ≡ length left → length xs ≡ 64 → Stands ns xs → o ≡ touch s x t → Gathering before s x xs ns ns1 g → Grown ns1 ns2 → Extends i ns1 ns2 o g r → Gathering left s x xs ns ns2 r
+pub gathering_more : (before left : List (Option Active)) (t : Option Active) (i : ℕ) (s : Side) (x : ℕ) (xs : List (Option Active)) (ns ns1 ns2 : List Node) (o : Option Active) (g r : Option Group) → before ≡ left ++ (t ∷ []) → i ≡ length left → length xs ≡ 64 → Stands ns xs → o ≡ touch s x t → Gathering before s x xs ns ns1 g → Grown ns1 ns2 → Extends i ns1 ns2 o g r → Gathering left s x xs ns ns2 r
 gathering_more before left t i s x xs ns ns1 ns2 o g r e j m S q G p X =
     let B = back before left t xs e G.whole in
     let n : length before ≡ length left + 1 = ap length e ∙ length-append left (t ∷ []) in
@@ -160,7 +160,7 @@ has_room len len1 m None l g a b c = tt
 has_room len len1 m (Some x) l None a b c = tt
 has_room len len1 m (Some x) l (Some h) a b c = omega arith
 
-pub asks : (before left : List (Option Active)) (t : Option Active) (s : Side) (x : ℕ) (xs : List (Option Active)) (ns : List Node) (ns1 : List Node) (o : Option Active) (g : Option Group) → before ≡ left ++ (t ∷ []) → Stands ns xs → length ns + live (map (touch s x) xs) ≤ 128 → o ≡ touch s x t → Gathering before s x xs ns ns1 g → Sits (length ns1) o × SitsGroup (length ns1) g × Room (length ns1) o g
+pub asks : (before left : List (Option Active)) (t : Option Active) (s : Side) (x : ℕ) (xs : List (Option Active)) (ns ns1 : List Node) (o : Option Active) (g : Option Group) → before ≡ left ++ (t ∷ []) → Stands ns xs → length ns + live (map (touch s x) xs) ≤ 128 → o ≡ touch s x t → Gathering before s x xs ns ns1 g → Sits (length ns1) o × SitsGroup (length ns1) g × Room (length ns1) o g
 asks before left t s x xs ns ns1 o g e S room q G =
     let B = back before left t xs e G.whole in
     let n : length before ≡ length left + 1 = ap length e ∙ length-append left (t ∷ []) in

@@ -35,7 +35,7 @@ some_into x u w ns l j ns' r E h e =
     let s = E.some_in in
     no_group j ns' (edges ns (map (touch Entering x) l)) s.0 ((in_touch Entering x ns l s.0).1 (s.1, s.2)) (subst (λ z. Holds j ns' (edges ns (map (touch Entering x) l)) z) e h)
 
-pub some_out : (x u w : ℕ) (ns : List Node) (l : List (Option Active)) (j : ℕ) (ns1 : List Node) (ns' : List Node) (r : Option Group) → edges ns1 (map (touch Leaving x) l) ≡ edges ns (map (touch Leaving x) l) → Eligible (edges ns l) x u w → Holds j ns' (edges ns1 (map (touch Leaving x) l)) r → r ≡ None → ⊥
+pub some_out : (x u w : ℕ) (ns : List Node) (l : List (Option Active)) (j : ℕ) (ns1 ns' : List Node) (r : Option Group) → edges ns1 (map (touch Leaving x) l) ≡ edges ns (map (touch Leaving x) l) → Eligible (edges ns l) x u w → Holds j ns' (edges ns1 (map (touch Leaving x) l)) r → r ≡ None → ⊥
 some_out x u w ns l j ns1 ns' r q E h e =
     let s = E.some_out in
     no_group j ns' (edges ns (map (touch Leaving x) l)) s.0 ((in_touch Leaving x ns l s.0).1 (s.1, s.2)) (subst (λ z. Holds j ns' (edges ns (map (touch Leaving x) l)) z) e (subst (λ L. Holds j ns' L r) q h))
@@ -49,7 +49,7 @@ pub group_at : {j : ℕ} {l : List (Option Active)} {ns ns' : List Node} {r : Op
 group_at {j} {l} {ns} {ns'} G e = subst (λ z. Gathered j l ns ns' z) e G
 
 -- the two groups with the node that joins them
-pub merged : (x : ℕ) (l : List (Option Active)) (ns : List Node) (ns1 : List Node) (ns2 : List Node) (ns3 : List Node) (a b h : Group) → Stands ns l → Gathered 0 (map (touch Entering x) l) ns ns1 (Some a) → Gathered 0 (map (touch Leaving x) l) ns1 ns2 (Some b) → h.at ≡ length ns2 → length ns3 ≡ length ns2 + 1 → tree_at ns3 (length ns2) ≡ series (tree_at ns2 a.at) (tree_at ns2 b.at) → ((i : ℕ) → i < length ns2 → tree_at ns3 i ≡ tree_at ns2 i) → h.low ≡ min a.low b.low → Merged x l ns ns3 h
+pub merged : (x : ℕ) (l : List (Option Active)) (ns ns1 ns2 ns3 : List Node) (a b h : Group) → Stands ns l → Gathered 0 (map (touch Entering x) l) ns ns1 (Some a) → Gathered 0 (map (touch Leaving x) l) ns1 ns2 (Some b) → h.at ≡ length ns2 → length ns3 ≡ length ns2 + 1 → tree_at ns3 (length ns2) ≡ series (tree_at ns2 a.at) (tree_at ns2 b.at) → ((i : ℕ) → i < length ns2 → tree_at ns3 i ≡ tree_at ns2 i) → h.low ≡ min a.low b.low → Merged x l ns ns3 h
 merged x l ns ns1 ns2 ns3 a b h S G K at n t same low =
     let A = a_group 0 ns1 (edges ns (map (touch Entering x) l)) a G.group in
     let B = a_group 0 ns2 (edges ns1 (map (touch Leaving x) l)) b K.group in

@@ -3,6 +3,7 @@ use Rattle.std.proofs.Common.{◌≡◌, ℕ, zero, suc, ◌+◌, ◌-◌, ◌<�
 use Rattle.std.proofs.lemmas.List.{get_or-take, get_or-drop}
 use Rattle.std.proofs.lemmas.Bool.Decides.{eqb_tells}
 use Rattle.std.specs.List.{cons_option, filter_map, list_all}
+use Rattle.std.proofs.lemmas.Option.{none-some}
 use Rattle.wiring.specs.Elimination.{Edge, Eligible}
 use Rattle.wiring.specs.Lists.{In}
 use Rattle.elimination.specs.declared.groups.Passage.{Passage}
@@ -12,7 +13,7 @@ use Rattle.elimination.specs.declared.slots.Side.TheVariants.{Entering, Leaving}
 use Rattle.elimination.specs.declared.table.Node.{Node}
 use Rattle.elimination.specs.Reduction.{passage_of, candidate_of, Picked}
 use Rattle.elimination.specs.Slots.{edge, edges, near_of, far_of, touch, far_ends, only_of}
-use Rattle.elimination.proofs.Edges.{none_some, some_same, near_end, near_edge}
+use Rattle.elimination.proofs.Edges.{some_same, near_end, near_edge}
 
 false_true : false ≡ true → ⊥
 false_true e = let z : ◌≡◌ {A = ℕ} 0 1 = cc in omega arith
@@ -81,17 +82,17 @@ same_all u (w ∷ l) f =
     (eqb_tells w u)
 
 only_some : (l : List ℕ) (u : ℕ) → only_of l ≡ Some u → In u l × ((v : ℕ) → In v l → v ≡ u)
-only_some [] u e = absurd (none_some e)
+only_some [] u e = absurd (none-some _ e)
 only_some (w ∷ l) u e = go (list_all (λ v. eqb v w) l) refl e
   where
     go : (b : Bool) → list_all (λ v. eqb v w) l ≡ b → cond b (Some w) None ≡ Some u → In u (w ∷ l) × ((v : ℕ) → In v (w ∷ l) → v ≡ u)
-    go false q h = absurd (none_some h)
+    go false q h = absurd (none-some _ h)
     go true q h = let k : w ≡ u = some_same h in (inl (sym k), λ v. elim [ inl r ↦ r ∙ k | inr j ↦ all_same w l q v j ∙ k ])
 
 only_none : (l : List ℕ) → only_of l ≡ None → (u v : ℕ) → In v l → ((v : ℕ) → In v l → v ≡ u) → ⊥
 only_none [] e u v i f = i
 only_none (w ∷ l) e u v i f =
-    none_some (sym e ∙ ap (λ b. cond b (Some w) None) (same_all w l (λ v j. f v (inr j) ∙ sym (f w (inl refl)))))
+    none-some _ (sym e ∙ ap (λ b. cond b (Some w) None) (same_all w l (λ v j. f v (inr j) ∙ sym (f w (inl refl)))))
 
 tells : (s : Side) (x : ℕ) (ns : List Node) (l : List (Option Active)) (u : ℕ) → only_of (far_ends s x l) ≡ Some u → Sole s x (edges ns l) u
 tells s x ns l u e =
@@ -110,8 +111,8 @@ record Passes (x : ℕ) (A : List Edge) (p : Passage) : Type 0 where
   pub may : Eligible A p.joint p.from p.to
 
 passes : (x : ℕ) (A : List Edge) (a b : Option ℕ) (p : Passage) → ((u : ℕ) → a ≡ Some u → Sole Entering x A u) → ((w : ℕ) → b ≡ Some w → Sole Leaving x A w) → passage_of x a b ≡ Some p → Passes x A p
-passes x A None b p f g e = absurd (none_some e)
-passes x A (Some u) None p f g e = absurd (none_some e)
+passes x A None b p f g e = absurd (none-some _ e)
+passes x A (Some u) None p f g e = absurd (none-some _ e)
 passes x A (Some u) (Some w) p f g e =
     let s = f u refl in
     let t = g w refl in
@@ -122,14 +123,14 @@ passes x A (Some u) (Some w) p f g e =
 blocked : (x : ℕ) (A : List Edge) (a b : Option ℕ) → (a ≡ None → (u : ℕ) → Sole Entering x A u → ⊥) → (b ≡ None → (w : ℕ) → Sole Leaving x A w → ⊥) → passage_of x a b ≡ None → (u w : ℕ) → Eligible A x u w → ⊥
 blocked x A None b f g e u w E = f refl u (E.some_in, E.from_u)
 blocked x A (Some v) None f g e u w E = g refl w (E.some_out, E.to_w)
-blocked x A (Some v) (Some z) f g e u w E = none_some (sym e)
+blocked x A (Some v) (Some z) f g e u w E = none-some _ (sym e)
 
 record Chosen (g : Bool) (x : ℕ) (A : List Edge) (p : Passage) : Type 0 where
   pub left : g ≡ false
   pub may : Eligible A p.joint p.from p.to
 
 chosen : (g : Bool) (x : ℕ) (ns : List Node) (l : List (Option Active)) (p : Passage) → candidate_of g x l ≡ Some p → Chosen g x (edges ns l) p
-chosen true x ns l p e = absurd (none_some e)
+chosen true x ns l p e = absurd (none-some _ e)
 chosen false x ns l p e = record { left = refl; may = (passes x (edges ns l) _ _ p (tells Entering x ns l) (tells Leaving x ns l) e).may }
 
 pub not_chosen : (g : Bool) (x : ℕ) (ns : List Node) (l : List (Option Active)) → g ≡ false → candidate_of g x l ≡ None → (u w : ℕ) → Eligible (edges ns l) x u w → ⊥

@@ -1,7 +1,8 @@
 -- The links in their slots.
-use Rattle.std.proofs.Common.{◌≡◌, ℕ, zero, suc, ◌+◌, ◌-◌, ◌<◌, ◌≤◌, List, [], ◌∷◌, ◌++◌, length, get_or, take, set, replicate, Some, None, Option, sym, refl, ap, ◌∙◌, subst, ap₂, add-one, arith, length-take}
+use Rattle.std.proofs.Common.{◌≢◌, ◌≡◌, ℕ, zero, suc, ◌+◌, ◌-◌, ◌<◌, ◌≤◌, List, [], ◌∷◌, ◌++◌, length, get_or, take, set, replicate, Some, None, Option, sym, refl, ap, ◌∙◌, subst, ap₂, add-one, arith, length-take}
 use native.Mathlib.Decide.{ℕ_discrete}
 use Rattle.std.proofs.lemmas.List.{get_or-set_same, get_or-set_other, length-set}
+use Rattle.std.proofs.lemmas.Option.{none-some}
 use Rattle.wiring.specs.declared.rung.Link.{Link}
 use Rattle.wiring.specs.Circuit.{Circuit, circuit, bare}
 use Rattle.wiring.specs.declared.rung.Rung.{Rung}
@@ -14,10 +15,14 @@ use Rattle.wiring.proofs.Drawing.{linked-at}
 use Rattle.elimination.specs.declared.slots.Active.{Active}
 use Rattle.elimination.specs.declared.table.Node.{Node}
 use Rattle.elimination.specs.Groups.{Grown}
-use Rattle.elimination.specs.Reduction.{Loopless, Placed}
+use Rattle.elimination.specs.Reduction.{Placed}
 use Rattle.elimination.specs.Slots.{edge, edges, live, Fine}
 use Rattle.elimination.specs.Trees.{tree_at}
-use Rattle.elimination.proofs.Edges.{none_some, some_same, live-set, edge-between, stands_grown, edges-grown}
+use Rattle.elimination.proofs.Edges.{some_same, live-set, edge-between, stands_grown, edges-grown}
+
+-- no link goes from a joint to itself
+abbrev pub Loopless : List Link → Type 0
+Loopless links = (i : ℕ) → i < length links → (get_or links i bare).from ≢ (get_or links i bare).to
 
 -- a list of one value throughout
 pub none-at : {X : Type 0} (x : X) (n k : ℕ) → get_or (replicate n x) k x ≡ x
@@ -37,7 +42,7 @@ none-live (suc n) = none-live n
 pub placed-none : (links : List Link) (l : List (Option Active)) (ns : List Node) → l ≡ replicate 64 None → length ns ≡ 0 → length l ≡ 64 → Placed 0 links l ns
 placed-none links l ns e z long = record {
   edges_are = λ c q. ap (edges ns) e ∙ no_edges ns 64;
-  stands = λ k a h. absurd (none_some (sym (none-at None 64 k) ∙ sym (ap (λ m. get_or m k None) e) ∙ h));
+  stands = λ k a h. absurd (none-some _ (sym (none-at None 64 k) ∙ sym (ap (λ m. get_or m k None) e) ∙ h));
   len_is = z;
   live-is = ap live e ∙ none-live 64;
   rest = λ k h. ap (λ m. get_or m k None) e ∙ none-at None 64 k;
@@ -48,19 +53,19 @@ placed-none links l ns e z long = record {
 none-edges : (ns : List Node) (l : List (Option Active)) → ((k : ℕ) → get_or l k None ≡ None) → edges ns l ≡ []
 none-edges ns [] f = refl
 none-edges ns (None ∷ l) f = none-edges ns l (λ k. f (suc k))
-none-edges ns (Some a ∷ l) f = absurd (none_some (sym (f zero)))
+none-edges ns (Some a ∷ l) f = absurd (none-some _ (sym (f zero)))
 
 edges_push : (ns : List Node) (l : List (Option Active)) (k : ℕ) (a : Active) → k < length l → ((j : ℕ) → k ≤ j → get_or l j None ≡ None) → edges ns (set l k (Some a)) ≡ edges ns l ++ (edge ns a ∷ [])
 edges_push ns [] k a h f = absurd (omega arith)
 edges_push ns (None ∷ l) zero a h f =
     let e = none-edges ns l (λ k. f (suc k) (omega arith)) in
     ap (λ z. edge ns a ∷ z) e ∙ sym (ap (λ z. z ++ (edge ns a ∷ [])) e)
-edges_push ns (Some b ∷ l) zero a h f = absurd (none_some (sym (f zero (omega arith))))
+edges_push ns (Some b ∷ l) zero a h f = absurd (none-some _ (sym (f zero (omega arith))))
 edges_push ns (None ∷ l) (suc k) a h f = edges_push ns l k a (omega arith) (λ j q. f (suc j) (omega arith))
 edges_push ns (Some b ∷ l) (suc k) a h f = ap (λ z. edge ns b ∷ z) (edges_push ns l k a (omega arith) (λ j q. f (suc j) (omega arith)))
 
 -- one link more
-pub placed-more : (i : ℕ) (links : List Link) (l : List (Option Active)) (ns : List Node) (ns' : List Node) (at : ℕ) → Placed i links l ns → i < 64 → i < length links → Loopless links → at ≡ length ns → length ns' ≡ length ns + 1 → tree_at ns' (length ns) ≡ link i → ((k : ℕ) → k < length ns → tree_at ns' k ≡ tree_at ns k) → Placed (i + 1) links (set l i (Some (record { from = (get_or links i bare).from; to = (get_or links i bare).to; at = at }))) ns'
+pub placed-more : (i : ℕ) (links : List Link) (l : List (Option Active)) (ns ns' : List Node) (at : ℕ) → Placed i links l ns → i < 64 → i < length links → Loopless links → at ≡ length ns → length ns' ≡ length ns + 1 → tree_at ns' (length ns) ≡ link i → ((k : ℕ) → k < length ns → tree_at ns' k ≡ tree_at ns k) → Placed (i + 1) links (set l i (Some (record { from = (get_or links i bare).from; to = (get_or links i bare).to; at = at }))) ns'
 placed-more i links l ns ns' at P small within ok q n t same =
     let u = (get_or links i bare).from in
     let w = (get_or links i bare).to in

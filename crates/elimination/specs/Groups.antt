@@ -10,7 +10,7 @@ use Rattle.elimination.specs.Slots.{edges, live, touch, low_at}
 use Rattle.elimination.specs.Trees.{tree_at}
 
 -- the table has grown, and holds what it held
-pub record Grown (ns : List Node) (ns' : List Node) : Type 0 where
+pub record Grown (ns ns' : List Node) : Type 0 where
   pub more : length ns ≤ length ns'
   pub same : (i : ℕ) → i < length ns → tree_at ns' i ≡ tree_at ns i
 
@@ -36,7 +36,7 @@ size None = 0
 size (Some h) = 1
 
 -- what slot i makes of the group of the slots above it
-abbrev pub Extends : (i : ℕ) (ns : List Node) (ns' : List Node) → Option Active → Option Group → Option Group → Type 0
+abbrev pub Extends : (i : ℕ) (ns ns' : List Node) → Option Active → Option Group → Option Group → Type 0
 Extends i ns ns' None g r = (r ≡ g) × (length ns' ≡ length ns)
 Extends i ns ns' (Some a) None r = (r ≡ Some (record { at = a.at; low = i })) × (length ns' ≡ length ns)
 Extends i ns ns' (Some a) (Some h) r = (r ≡ Some (record { at = length ns; low = i })) × (length ns' ≡ length ns + 1) × (tree_at ns' (length ns) ≡ parallel (tree_at ns a.at) (tree_at ns h.at))
@@ -49,13 +49,13 @@ Holds j ns (e ∷ L) None = ⊥
 Holds j ns (e ∷ L) (Some h) = (h.at < length ns) × (tree_at ns h.at ≡ group_tree (e ∷ L)) × (low_at ns h.at ≡ h.low) × (j ≤ h.low) × (h.low < 64)
 
 -- the branch group of the filled slots l has been added to the table
-pub record Gathered (j : ℕ) (l : List (Option Active)) (ns : List Node) (ns' : List Node) (r : Option Group) : Type 0 where
+pub record Gathered (j : ℕ) (l : List (Option Active)) (ns ns' : List Node) (r : Option Group) : Type 0 where
   pub grown : Grown ns ns'
   pub room : length ns' + size r ≡ length ns + live l
   pub group : Holds j ns' (edges ns l) r
 
 -- the group into the joint x in series with the group out of it has been added to the table
-pub record Merged (x : ℕ) (l : List (Option Active)) (ns : List Node) (ns' : List Node) (h : Group) : Type 0 where
+pub record Merged (x : ℕ) (l : List (Option Active)) (ns ns' : List Node) (h : Group) : Type 0 where
   pub grown : Grown ns ns'
   pub room : length ns' + 1 ≡ length ns + live (map (touch Entering x) l) + live (map (touch Leaving x) l)
   pub at : h.at < length ns'

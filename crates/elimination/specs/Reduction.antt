@@ -1,6 +1,6 @@
 -- How far the elimination has come: this file serves the recognition's own contracts, and is not part of what a reader must believe.
-use Rattle.std.specs.Prelude.{◌≡◌, ℕ, suc, ◌+◌, ◌-◌, ◌<◌, ◌≤◌, Bool, true, false, ◌≢◌, ◌⊎◌, List, [], ◌∷◌, length, get_or, Some, None, Option, slice_index_or}
-use Rattle.wiring.specs.Circuit.{Circuit, bare, Reads}
+use Rattle.std.specs.Prelude.{◌≡◌, ℕ, suc, ◌+◌, ◌-◌, ◌<◌, ◌≤◌, Bool, true, false, ◌⊎◌, List, [], ◌∷◌, length, Some, None, Option, slice_index_or}
+use Rattle.wiring.specs.Circuit.{Circuit, Reads}
 use Rattle.wiring.specs.declared.rung.Link.{Link}
 use Rattle.wiring.specs.Elimination.{Edge, Step, Reaches, Starts, InRange, first-edges}
 use Rattle.wiring.specs.Lists.{In}
@@ -32,10 +32,6 @@ abbrev pub left_of : List Bool → ℕ
 left_of [] = 0
 left_of (true ∷ l) = left_of l
 left_of (false ∷ l) = suc (left_of l)
-
--- no link goes from a joint to itself
-abbrev pub Loopless : List Link → Type 0
-Loopless links = (i : ℕ) → i < length links → (get_or links i bare).from ≢ (get_or links i bare).to
 
 -- the first i links stand in their slots
 pub record Placed (i : ℕ) (links : List Link) (l : List (Option Active)) (ns : List Node) : Type 0 where

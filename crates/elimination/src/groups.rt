@@ -46,6 +46,7 @@ pub(crate) fn gather(table: &mut Table, slots: &Slots, side: Side, joint: u8) ->
     requires room { length table.old.nodes.items + live (map (touch side joint) slots.now) ≤ 128 }
     ensures { Gathered 0 (map (touch side joint) slots.now) table.old.nodes.items table.new.nodes.items result }
 {
+    // Kept as a loop: each turn also adds to the table, and of what a fold's closure changes a proof knows nothing.
     let mut group = None;
     for (i, slot) in slots.iter().enumerate().rev() {
         group = extend(table, touching(*slot, side, joint), i as u8, group);

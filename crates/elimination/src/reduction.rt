@@ -16,7 +16,7 @@ use wiring::Rung;
 pub(crate) struct Reduction {
     pub table: Table,
     pub slots: Slots,
-    joints: usize,
+    joints: u8,
     ghost stands: { Stands table.nodes.items slots },
     ghost room: { length table.nodes.items + live slots ≤ 128 },
     ghost two: { 2 ≤ joints },
@@ -61,7 +61,7 @@ impl Reduction {
         Reduction {
             table,
             slots,
-            joints: rung.joints as usize,
+            joints: rung.joints,
         }
     }
 
@@ -69,7 +69,8 @@ impl Reduction {
     fn pick(&self, gone: &[bool; 32]) -> Option<Passage>
         ensures { Picked self.now.joints gone.now self.now.slots result }
     {
-        for (i, gone) in gone[1..self.joints - 1].iter().enumerate() {
+        // Kept as a loop: a closure over the position is not told that the joint's number fits a byte.
+        for (i, gone) in gone[1..self.joints as usize - 1].iter().enumerate() {
             if let Some(passage) = candidate(&self.slots, *gone, i as u8 + 1) {
                 return Some(passage);
             }
@@ -106,9 +107,6 @@ impl Reduction {
             self.eliminate(next);
             gone[next.joint as usize] = true;
         }
-        if !all_gone(&gone[1..self.joints - 1]) {
-            return false;
-        }
-        all_straight(&self.slots, (self.joints - 1) as u8)
+        all_gone(&gone[1..self.joints as usize - 1]) && all_straight(&self.slots, self.joints - 1)
     }
 }

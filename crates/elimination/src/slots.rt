@@ -69,6 +69,7 @@ pub(crate) fn clear(slots: &mut Slots, joint: u8)
 pub(crate) fn only_end(slots: &Slots, side: Side, joint: u8) -> Option<u8>
     ensures { result ≡ only_of (far_ends side joint slots.now) }
 {
+    // Kept as a loop: once the first end is taken by `next`, a proof knows nothing of it or of those behind it.
     let mut only = None;
     for slot in slots {
         if let Some(edge) = touching(*slot, side, joint) {

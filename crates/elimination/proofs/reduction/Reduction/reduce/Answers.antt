@@ -30,12 +30,13 @@ loop-next-preserved c =
       work_at (sym c.eliminate.ensures.joints) W,
     )
 
-pub returns-then-not-all_gone : goal.returns-then-not-all_gone
-returns-then-not-all_gone c =
-    subst (λ j. NoReading j (edges c.args.self.now.table.nodes.items c.args.self.now.slots)) c.loop-next.invariant.0
-    (gone_refused c.loop-next.self.joints _ _ c.loop-next.self.slots c.loop-next.self.table.nodes.items c.loop-next.gone c.loop-next.invariant.1 c.in_default.ensures (all_gone_by c.loop-next.self.joints c.loop-next.gone _ (let m = c.loop-next.self.most in omega (arith, c.loop-next.invariant.1.long)) c.if-not-all_gone.ensures))
+pub returns-else-all_gone : goal.returns-else-all_gone
+returns-else-all_gone c =
+    subst (λ b. Outcome c.args.self.now.joints (length c.args.self.now.table.nodes.items + live c.args.self.now.slots) (edges c.args.self.now.table.nodes.items c.args.self.now.slots) c.loop-next.self.slots c.loop-next.self.table.nodes.items b) (sym c.if-all_gone.false)
+    (subst (λ j. NoReading j (edges c.args.self.now.table.nodes.items c.args.self.now.slots)) c.loop-next.invariant.0
+    (gone_refused c.loop-next.self.joints _ _ c.loop-next.self.slots c.loop-next.self.table.nodes.items c.loop-next.gone c.loop-next.invariant.1 c.in_default.ensures (all_gone_by c.loop-next.self.joints c.loop-next.gone _ (let m = c.loop-next.self.most in omega (arith, c.loop-next.invariant.1.long)) c.if-all_gone.ensures)))
 
-pub returns : goal.returns
-returns c =
+pub returns-then-all_gone : goal.returns-then-all_gone
+returns-then-all_gone c =
     subst (λ j. Outcome j (length c.args.self.now.table.nodes.items + live c.args.self.now.slots) (edges c.args.self.now.table.nodes.items c.args.self.now.slots) c.loop-next.self.slots c.loop-next.self.table.nodes.items c.all_straight.result) c.loop-next.invariant.0
-    (outcome c.loop-next.self.joints _ _ c.loop-next.self.slots c.loop-next.self.table.nodes.items c.loop-next.gone c.loop-next.invariant.1 c.in_default.ensures (all_gone_by c.loop-next.self.joints c.loop-next.gone _ (let m = c.loop-next.self.most in omega (arith, c.loop-next.invariant.1.long)) c.if-not-all_gone.ensures) c.all_straight.result c.all_straight.ensures)
+    (outcome c.loop-next.self.joints _ _ c.loop-next.self.slots c.loop-next.self.table.nodes.items c.loop-next.gone c.loop-next.invariant.1 c.in_default.ensures (all_gone_by c.loop-next.self.joints c.loop-next.gone _ (let m = c.loop-next.self.most in omega (arith, c.loop-next.invariant.1.long)) c.if-all_gone.ensures) c.all_straight.result c.all_straight.ensures)
