@@ -1,5 +1,7 @@
 -- Where a bit stands, and a field one bit longer. Assumes nothing.
-use Rattle.std.proofs.Common.{◌≡◌, ℕ, zero, suc, ◌+◌, ◌-◌, ◌*◌, ◌/◌, ◌%◌, ◌^◌, ◌<◌, ◌≤◌, List, [], ◌∷◌, ◌++◌, length, get_or, take, drop, refl, ap, ◌∙◌, zero-add, arith, length-drop, get_or-drop, pow_mono, pow-add}
+use Rattle.std.proofs.Common.{◌≡◌, ℕ, zero, suc, ◌+◌, ◌-◌, ◌*◌, ◌/◌, ◌%◌, ◌^◌, ◌<◌, ◌≤◌, List, [], ◌∷◌, ◌++◌, length, get_or, take, drop, None, Some, Option, Bor, sym, refl, ap, ◌∙◌, zero-add, arith, length-drop, get_or-drop, pow_mono, pow-add}
+use Rattle.std.specs.Option.{MatchOption, option_map, unwrap_or}
+use Rattle.std.proofs.Math.Nat.{zero-div}
 use Rattle.std.proofs.lemmas.List.{take_more}
 use Rattle.cards.specs.Bits.{byte_bits, bits, number_on, field_of}
 
@@ -20,17 +22,29 @@ past b rest i =
     let e : 8 + i ≡ suc (suc (suc (suc (suc (suc (suc (suc i))))))) = omega arith in
     ap (λ j. get_or (byte_bits b ++ rest) j 0) e
 
-at : (bs : List ℕ) (q k : ℕ) → q < length bs → k < 8 → get_or (bits bs) (8 * q + k) 0 ≡ get_or bs q 0 / 2 ^ (7 - k) % 2
-at [] q k h l = absurd (omega arith)
-at (b ∷ bs) zero k h l = ap (λ j. get_or (byte_bits b ++ bits bs) j 0) (zero-add k) ∙ one b k (bits bs) l
-at (b ∷ bs) (suc q) k h l =
-    let e : 8 * suc q + k ≡ 8 + (8 * q + k) = omega arith in
-    ap (λ j. get_or (byte_bits b ++ bits bs) j 0) e ∙ past b (bits bs) (8 * q + k) ∙ at bs q k (omega arith) l
+none : (k : ℕ) → 0 / 2 ^ k % 2 ≡ 0
+none k = ap (λ (x : ℕ). x % 2) (zero-div (2 ^ k))
 
-pub bit_at : (bs : List ℕ) (i : ℕ) → i < 8 * length bs → get_or (bits bs) i 0 ≡ get_or bs (i / 8) 0 / 2 ^ (7 - i % 8) % 2
-bit_at bs i h =
+at : (bs : List ℕ) (q k : ℕ) → k < 8 → get_or (bits bs) (8 * q + k) 0 ≡ get_or bs q 0 / 2 ^ (7 - k) % 2
+at [] q k l = sym (none (7 - k))
+at (b ∷ bs) zero k l = ap (λ j. get_or (byte_bits b ++ bits bs) j 0) (zero-add k) ∙ one b k (bits bs) l
+at (b ∷ bs) (suc q) k l =
+    let e : 8 * suc q + k ≡ 8 + (8 * q + k) = omega arith in
+    ap (λ j. get_or (byte_bits b ++ bits bs) j 0) e ∙ past b (bits bs) (8 * q + k) ∙ at bs q k l
+
+-- a bit by its byte and its place there; past the bytes both are 0
+bit_at : (bs : List ℕ) (i : ℕ) → get_or (bits bs) i 0 ≡ get_or bs (i / 8) 0 / 2 ^ (7 - i % 8) % 2
+bit_at bs i =
     let e : i ≡ 8 * (i / 8) + i % 8 = omega arith in
-    ap (λ j. get_or (bits bs) j 0) e ∙ at bs (i / 8) (i % 8) (omega arith) (omega arith)
+    ap (λ j. get_or (bits bs) j 0) e ∙ at bs (i / 8) (i % 8) (omega arith)
+
+-- the bit of a byte, if there is one, and otherwise 0
+of_byte : (o : Option (Bor ℕ)) (P : Bor ℕ → Type 0) (k r b : ℕ) → MatchOption o (r ≡ 0) P → ((x : Bor ℕ) → P x → r ≡ x.now / 2 ^ k % 2) → unwrap_or (option_map (λ x. x.now) o) 0 ≡ b → r ≡ b / 2 ^ k % 2
+of_byte None P k r b m f e = m ∙ sym (none k) ∙ ap (λ (x : ℕ). x / 2 ^ k % 2) e
+of_byte (Some x) P k r b m f e = f x m ∙ ap (λ (x : ℕ). x / 2 ^ k % 2) e
+
+pub bit_of : (bs : List ℕ) (i r : ℕ) (o : Option (Bor ℕ)) (P : Bor ℕ → Type 0) → MatchOption o (r ≡ 0) P → ((x : Bor ℕ) → P x → r ≡ x.now / 2 ^ (7 - i % 8) % 2) → unwrap_or (option_map (λ x. x.now) o) 0 ≡ get_or bs (i / 8) 0 → r ≡ get_or (bits bs) i 0
+bit_of bs i r o P m f e = of_byte o P (7 - i % 8) r (get_or bs (i / 8) 0) m f e ∙ sym (bit_at bs i)
 
 pub length-bits : (bs : List ℕ) → length (bits bs) ≡ 8 * length bs
 length-bits [] = refl

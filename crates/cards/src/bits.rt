@@ -25,10 +25,7 @@ impl Bits<'_> {
         let start = self.at;
         let end = start + width;
         if self.bytes.len() < ((end + 7) / 8) as usize {
-            return Err(CardFault {
-                cause: CardCause::EndsEarly,
-                bit: start,
-            });
+            return Err(CardCause::EndsEarly.at(start));
         }
         let mut value = 0u16;
         for i in start..end {
@@ -44,9 +41,7 @@ pub(crate) fn bit(bytes: &[u8], i: u32) -> u8
     ensures value { result ≡ slice_index (bits bytes.now) i }
     ensures small { result < 2 }
 {
-    let index = (i / 8) as usize;
-    if index >= bytes.len() {
-        return 0;
-    }
-    (bytes[index] >> (7 - i % 8)) % 2
+    bytes
+        .get((i / 8) as usize)
+        .map_or(0, |byte| (byte >> (7 - i % 8)) % 2)
 }

@@ -36,10 +36,7 @@ fn progress_of(rungs: u16) -> Result<Progress, CardFault>
     ensures { Headed (few_rungs rungs) result }
 {
     if rungs > 128 {
-        return Err(CardFault {
-            cause: CardCause::TooManyRungs,
-            bit: 0,
-        });
+        return Err(CardCause::TooManyRungs.at(0));
     }
     let rungs = rungs as u8;
     Ok(Progress {
@@ -74,19 +71,11 @@ pub fn read_end(bytes: &[u8], progress: &Progress) -> Result<(), CardFault>
     ensures { result ≡ end_at bytes.now progress.now.at }
 {
     let end = (progress.at + 7) / 8 * 8;
-    for i in progress.at..end {
-        if bit(bytes, i) != 0 {
-            return Err(CardFault {
-                cause: CardCause::Padding,
-                bit: i,
-            });
-        }
+    if let Some(one) = (progress.at..end).find(|i| bit(bytes, *i) != 0) {
+        return Err(CardCause::Padding.at(one));
     }
     if bytes.len() > (end / 8) as usize {
-        return Err(CardFault {
-            cause: CardCause::Padding,
-            bit: end,
-        });
+        return Err(CardCause::Padding.at(end));
     }
     Ok(())
 }

@@ -1,7 +1,6 @@
 //! The links and coils of a rung, read from their fields.
-ghost use Rattle.std.specs.Prelude.{◌≡◌, ◌+◌, ◌<◌, ◌≤◌, ◌&&◌, if◌then◌else◌, Some, None, OnOk, ◌==◌, nat_eq};
-ghost use Rattle.std.specs.Option.{option_map};
-ghost use Rattle.cards.specs.Rungs.{point_of, contact_of, link_of, action_of, coil_of, link_at, coil_at, placed};
+ghost use Rattle.std.specs.Prelude.{◌≡◌, ◌<◌};
+ghost use Rattle.cards.specs.Rungs.{point_of, contact_of, link_of, action_of, coil_of, link_at, coil_at};
 
 use super::bits::Bits;
 use super::fault::{CardCause, CardFault};
@@ -13,37 +12,10 @@ fn point_of(area: u16, number: u16) -> Option<Point>
     requires { number < 256 }
     ensures { result ≡ point_of area number }
 {
-    let number = number as u8;
-    let area = Area::try_from(area).ok()?;
-    Some(Point { area, number })
-}
-
-fn wire_of(area: u16, number: u16) -> Option<Contact>
-    ensures { result ≡ (if nat_eq area 0 && number == 0 then Some Contact.Wire else None) }
-{
-    if area == 0 && number == 0 {
-        Some(Contact::Wire)
-    } else {
-        None
-    }
-}
-
-fn open_at(point: Option<Point>) -> Option<Contact>
-    ensures { result ≡ option_map Contact.Open point }
-{
-    match point {
-        None => None,
-        Some(point) => Some(Contact::Open(point)),
-    }
-}
-
-fn closed_at(point: Option<Point>) -> Option<Contact>
-    ensures { result ≡ option_map Contact.Closed point }
-{
-    match point {
-        None => None,
-        Some(point) => Some(Contact::Closed(point)),
-    }
+    Area::try_from(area).ok().map(|area| Point {
+        area,
+        number: number as u8,
+    })
 }
 
 fn contact_of(kind: u16, area: u16, number: u16) -> Option<Contact>
@@ -51,9 +23,9 @@ fn contact_of(kind: u16, area: u16, number: u16) -> Option<Contact>
     ensures { result ≡ contact_of kind area number }
 {
     match kind {
-        0 => wire_of(area, number),
-        1 => open_at(point_of(area, number)),
-        2 => closed_at(point_of(area, number)),
+        0 => (area == 0 && number == 0).then_some(Contact::Wire),
+        1 => point_of(area, number).map(Contact::Open),
+        2 => point_of(area, number).map(Contact::Closed),
         _ => None,
     }
 }
@@ -63,17 +35,15 @@ fn link_of(joints: u8, from: u16, to: u16, contact: Option<Contact>) -> Option<L
     requires to { to < 32 }
     ensures { result ≡ link_of joints from to contact }
 {
-    let contact = contact?;
-    if from >= joints as u16 || to >= joints as u16 || from == to {
-        return None;
-    }
-    Some(Link {
+    let link = Link {
         from: from as u8,
         to: to as u8,
-        contact,
-    })
+        contact: contact?,
+    };
+    (link.from < joints && link.to < joints && link.from != link.to).then_some(link)
 }
 
+// A function and no `From`: neither type is of this crate.
 fn action_of(action: u16) -> Action
     ensures { result ≡ action_of action }
 {
@@ -88,14 +58,11 @@ fn action_of(action: u16) -> Action
 fn coil_of(action: u16, point: Option<Point>) -> Option<Coil>
     ensures { result ≡ coil_of action point }
 {
-    let point = point?;
-    match point.area {
-        Area::Input => None,
-        Area::Output | Area::Marker => Some(Coil {
-            action: action_of(action),
-            point,
-        }),
-    }
+    let coil = Coil {
+        action: action_of(action),
+        point: point?,
+    };
+    matches!(coil.point.area, Area::Output | Area::Marker).then_some(coil)
 }
 
 /// From 5 bits, to 5, contact 2, area 2, number 8.
@@ -112,10 +79,7 @@ impl Part for Link {
         let area = bits.field(2)?;
         let number = bits.field(8)?;
         let link = link_of(joints, from, to, contact_of(kind, area, number));
-        link.ok_or(CardFault {
-            cause: CardCause::LinkField,
-            bit,
-        })
+        link.ok_or(CardCause::LinkField.at(bit))
     }
 }
 
@@ -131,9 +95,6 @@ impl Part for Coil {
         let area = bits.field(2)?;
         let number = bits.field(8)?;
         let coil = coil_of(action, point_of(area, number));
-        coil.ok_or(CardFault {
-            cause: CardCause::CoilField,
-            bit,
-        })
+        coil.ok_or(CardCause::CoilField.at(bit))
     }
 }

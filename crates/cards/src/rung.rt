@@ -15,17 +15,14 @@ use wiring::Rung;
 fn sizes_of(bit: u32, joints: u16, links: u16, coils: u16) -> Result<Sizes, CardFault>
     ensures { result ≡ sized bit joints links coils }
 {
-    if joints < 2 || joints > 32 || links < 1 || links > 64 || coils < 1 || coils > 8 {
-        return Err(CardFault {
-            cause: CardCause::Counts,
-            bit,
-        });
+    match (joints, links, coils) {
+        (2..=32, 1..=64, 1..=8) => Ok(Sizes {
+            joints: joints as u8,
+            links: links as u8,
+            coils: coils as u8,
+        }),
+        _ => Err(CardCause::Counts.at(bit)),
     }
-    Ok(Sizes {
-        joints: joints as u8,
-        links: links as u8,
-        coils: coils as u8,
-    })
 }
 
 impl Bits<'_> {

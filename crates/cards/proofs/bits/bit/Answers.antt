@@ -1,11 +1,6 @@
-use Rattle.std.proofs.Common.{sym, arith, lit<}
-use Rattle.std.proofs.lemmas.List.{get_or_past}
-use Rattle.cards.specs.Bits.{bits}
-use Rattle.cards.proofs.Places.{bit_at, length-bits}
+use Rattle.std.proofs.Common.{rules, arith}
+use Rattle.cards.proofs.Places.{bit_of}
 use Rattle.cards.proofs.bits.bit.Goals as goal
 
-pub returns-then-index-bytes : goal.returns-then-index-bytes
-returns-then-index-bytes c = record { value = sym (get_or_past (bits c.args.bytes.now) c.args.i 0 (omega (arith, length-bits c.args.bytes.now))); small = lit< tt }
-
-pub returns : goal.returns
-returns c = record { value = sym (bit_at c.args.bytes.now c.args.i (omega arith)); small = omega arith }
+pub returns-clause-value : goal.returns-clause-value
+returns-clause-value c = bit_of c.args.bytes.now c.args.i c.map_or.result c.get.result _ c.map_or.ensures (λ x p. search rules) (c.get.ensures.lookup.4 (omega arith) 0)

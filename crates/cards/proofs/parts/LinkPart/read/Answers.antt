@@ -1,7 +1,6 @@
 use Rattle.std.proofs.Common.{◌≡◌, ◌+◌, sym, refl, ap, ◌∙◌, arith}
 use Rattle.std.specs.Option.{ok_or}
-use Rattle.cards.specs.declared.fault.CardCause.TheVariants.{LinkField}
-use Rattle.cards.specs.Rungs.{link_of, fault_at}
+use Rattle.cards.specs.Rungs.{link_of}
 use Rattle.cards.proofs.Rows.{there, link_from}
 use Rattle.cards.proofs.parts.LinkPart.read.Goals as goal
 
@@ -23,4 +22,4 @@ returns-clause-value c =
     let e4 = there 2 c.field-4.ensures.value c.in_ok-area.was s3 a3 in
     let e5 = there 8 c.field-5.ensures.value c.in_ok-number.was s4 a4 in
     let whole = c.link_of-link.ensures ∙ ap (link_of c.args.joints c.in_ok-from.from c.in_ok-to.to) c.contact_of.ensures in
-    c.ok_or.ensures.value ∙ ap (λ o. ok_or o (fault_at LinkField at)) whole ∙ sym (link_from bs c.args.joints at e1 e2 e3 e4 e5)
+    c.ok_or.ensures.value ∙ (λ i. ok_or (whole i) (c.at.ensures i)) ∙ sym (link_from bs c.args.joints at e1 e2 e3 e4 e5)
