@@ -65,16 +65,13 @@ impl Pair {
     fn at(byte: u8, place: usize) -> Pair
         ensures { result.bits ≡ pair byte place }
     {
-        match place {
-            0 => Pair {
-                bits: byte / 64 % 4,
-            },
-            1 => Pair {
-                bits: byte / 16 % 4,
-            },
-            2 => Pair { bits: byte / 4 % 4 },
-            _ => Pair { bits: byte % 4 },
-        }
+        let bits = match place {
+            0 => byte / 64 % 4,
+            1 => byte / 16 % 4,
+            2 => byte / 4 % 4,
+            _ => byte % 4,
+        };
+        Pair { bits }
     }
 
     /// The byte with the two bits at a place, the other six as they were.

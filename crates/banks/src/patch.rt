@@ -13,6 +13,8 @@ use crate::refusal::Refusal;
 use crate::table::Table;
 use signals::Signal;
 
+// Kept as a type beside the strip: what they share is three bodies of one line, and a trait over marks and table would
+// need laws of place and passing that are as long as the two impls.
 /// Reads and writes each input at the input below that the table gives for it.
 #[derive(Drop)]
 pub struct PatchBoard<B> {
@@ -60,6 +62,7 @@ impl<B: Bank> PatchBoard<B> {
         ensures swaps { self.new.table.to ≡ rewired self.old.table.to a b }
         ensures shows { board_shows B.Kind.Signal.kind B.points self.new ≡ repatched B.Kind.Signal.kind (board_shows B.Kind.Signal.kind B.points self.old) a b }
     {
+        // Kept as one test of both numbers: two `try_from`, each with its error mapped, are no plainer.
         if a < 256 && b < 256 {
             self.table.exchange(a as u8, b as u8);
             Ok(())

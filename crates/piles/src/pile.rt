@@ -26,6 +26,7 @@ fn boarded<B: Bank>(bank: B) -> Layer<B>
     Layer::Patched(PatchBoard::over(bank))
 }
 
+// Kept as a pile in both answers: it owns the bank, so a refusal hands it back.
 /// Lays a layer in the lowest place that is free, or gives a pile back that has a layer on the top.
 fn laid<B: Bank, F: FnOnce(B) -> Layer<B> + Drop, G: FnOnce(Layer<B>) -> Pile<B> + Drop>(
     pile: Pile<B>,
