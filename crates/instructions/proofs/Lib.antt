@@ -1,4 +1,3 @@
 pub mod Words
 pub mod Deepest
 pub mod Texts
-pub mod Reports

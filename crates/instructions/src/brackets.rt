@@ -1,7 +1,6 @@
 //! How deep the brackets of words go.
-ghost use Rattle.std.specs.Prelude.{◌≡◌, ◌+◌, ◌^◌, ◌<◌, ◌≤◌, length};
-ghost use Rattle.instructions.specs.Words.{instruction_of};
-ghost use Rattle.instructions.specs.Depth.{opened, opened_if, depth as deepest_in};
+ghost use Rattle.std.specs.Prelude.{◌≡◌, min};
+ghost use Rattle.instructions.specs.Depth.{opened_if, depth as deepest_in};
 
 use super::instruction::Instruction;
 
@@ -9,24 +8,24 @@ use super::instruction::Instruction;
 pub fn depth(words: &[u16]) -> usize
     ensures { result ≡ deepest_in words.now }
 {
+    // Kept as a loop: two values change at each turn, and a fold over a pair is no plainer.
     let mut open = 0;
     let mut deepest = 0;
     for word in words {
-        open = open_after(open, *word);
+        open = brackets_after(open, Instruction::try_from(*word).ok());
         deepest = open.max(deepest);
     }
     deepest
 }
 
-/// How many brackets are open after a word.
-fn open_after(open: usize, word: u16) -> usize
-    requires { «open» + 1 < 2 ^ 64 }
-    ensures value { result ≡ opened_if «open» (instruction_of word) }
-    ensures bound { result ≤ «open» + 1 }
+/// How many brackets are open after an instruction, where so many were open before it, as far as that can be counted.
+/// A word that stands for no instruction opens and closes nothing.
+pub fn brackets_after(open: usize, instruction: Option<Instruction>) -> usize
+    ensures { result ≡ min (opened_if «open» instruction) usize.MAX }
 {
-    match Instruction::try_from(word) {
-        Ok(Instruction::AndOpen | Instruction::OrOpen) => open + 1,
-        Ok(Instruction::Close) => open.saturating_sub(1),
+    match instruction {
+        Some(Instruction::AndOpen | Instruction::OrOpen) => open.saturating_add(1),
+        Some(Instruction::Close) => open.saturating_sub(1),
         _ => open,
     }
 }

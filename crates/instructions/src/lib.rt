@@ -10,7 +10,7 @@ mod store;
 mod text;
 mod word;
 
-pub use brackets::depth;
+pub use brackets::{brackets_after, depth};
 pub use instruction::{Instruction, Operand};
 pub use report::{ShortBuffer, write_refusal, write_status};
 pub use store::{Full, Store};

@@ -1,9 +1,12 @@
 //! The status line and the refusal line.
-ghost use Rattle.std.specs.Prelude.{◌≡◌, ◌+◌, ◌<◌, ◌≤◌, [], ◌∷◌, ◌++◌, length};
-ghost use Rattle.instructions.specs.Texts.{field, fields, Wrote};
+ghost use Rattle.std.specs.Prelude.{◌≡◌, ◌≤◌, length};
 ghost use Rattle.instructions.specs.Reports.{status_line, refusal_line, record_of, Written, short_number};
 
-use super::text::{digits_in, write_all, write_byte, write_number};
+use super::text::{add, add_number};
+use arrayvec::ArrayVec;
+
+/// A word of two letters, four numbers of at most 20 digits, each behind a space, and the end.
+type Record = ArrayVec<u8, 87>;
 
 /// The buffer is too short for the text: it was left as it was.
 #[derive(Clone, Copy)]
@@ -26,7 +29,7 @@ pub fn write_status(
     ensures { Written (status_line counts) buffer.old result buffer.new }
 {
     let (rungs, words, depth, first) = counts;
-    write_record(b"OK", &[rungs, words, depth, first], buffer)
+    write_text(&record(b"OK", &[rungs, words, depth, first]), buffer)
 }
 
 /// Writes `NO`, the number of a refusal, the rung (or line) and the bit (or byte).
@@ -38,50 +41,33 @@ pub fn write_refusal(
 ) -> Result<usize, ShortBuffer>
     ensures { Written (refusal_line number rung place) buffer.old result buffer.new }
 {
-    write_record(b"NO", &[number as usize, rung, place], buffer)
+    write_text(&record(b"NO", &[number as usize, rung, place]), buffer)
 }
 
-/// Writes a word and then numbers, each behind a space, and byte 10.
-fn write_record(word: &[u8], numbers: &[usize], buffer: &mut [u8]) -> Result<usize, ShortBuffer>
+/// A word and then numbers, each behind a space, and byte 10.
+#[tactic(auto, using(crate::proofs::Texts::few_digits))]
+fn record(word: &[u8], numbers: &[usize]) -> Record
     requires name { length word.now ≤ 2 }
     requires few { length numbers.now ≤ 4 }
-    ensures { Written (record_of word.now numbers.now) buffer.old result buffer.new }
+    ensures { result.items ≡ record_of word.now numbers.now }
 {
-    if buffer.len() < word.len() + fields_len(numbers) + 1 {
+    let mut line = Record::new();
+    add(&mut line, word);
+    for number in numbers {
+        line.push(b' ');
+        add_number(&mut line, *number);
+    }
+    line.push(b'\n');
+    line
+}
+
+/// Writes a text from the start of a buffer, unless that is too short.
+fn write_text(text: &[u8], buffer: &mut [u8]) -> Result<usize, ShortBuffer>
+    ensures { Written text.now buffer.old result buffer.new }
+{
+    if buffer.len() < text.len() {
         return Err(ShortBuffer);
     }
-    let named = write_all(buffer, 0, word);
-    let end = write_fields(numbers, buffer, named);
-    Ok(write_byte(buffer, end, b'\n'))
-}
-
-fn fields_len(numbers: &[usize]) -> usize
-    requires few { length numbers.now ≤ 4 }
-    ensures value { result ≡ length (fields numbers.now) }
-    ensures bound { result ≤ 84 }
-{
-    let mut len = 0;
-    for number in numbers {
-        len += 1 + digits_in(*number);
-    }
-    len
-}
-
-fn write_fields(numbers: &[usize], buffer: &mut [u8], at: usize) -> usize
-    requires { at + length (fields numbers.now) ≤ length buffer.old }
-    ensures { Wrote buffer.old at (fields numbers.now) result buffer.new }
-{
-    let mut end = at;
-    for number in numbers {
-        end = write_field(*number, buffer, end);
-    }
-    end
-}
-
-fn write_field(number: usize, buffer: &mut [u8], at: usize) -> usize
-    requires { at + length (field number) ≤ length buffer.old }
-    ensures { Wrote buffer.old at (field number) result buffer.new }
-{
-    let spaced = write_byte(buffer, at, b' ');
-    write_number(buffer, spaced, number)
+    buffer[..text.len()].copy_from_slice(text);
+    Ok(text.len())
 }

@@ -9,6 +9,7 @@ use points::{Area, Point};
 use std::error::Error;
 use std::fmt;
 
+// No conversions by `From` and `TryFrom`: these are parts of a word, and nobody outside has them.
 impl Operand {
     /// Area and number as a word has them; `TRUE` has area 0 and number 0.
     fn code(self) -> u16

@@ -1,7 +1,10 @@
 -- A word more of a draft.
-use Rattle.std.proofs.Common.{◌≡◌, ℕ, ◌+◌, ◌<◌, ◌≤◌, Bool, true, false, cond, ltb, List, [], ◌∷◌, ◌++◌, length, get_or, take, drop, set, Ok, Err, sym, ap, ◌∙◌, arith}
+use Rattle.std.proofs.Common.{◌≡◌, ℕ, ◌+◌, ◌<◌, ◌≤◌, Bool, true, false, cond, ltb, List, [], ◌∷◌, ◌++◌, length, get_or, take, drop, Ok, Err, Result, sym, ap, ◌∙◌, arith}
 use Rattle.std.proofs.lemmas.Bool.Decides.{nat_tests}
-use Rattle.std.proofs.lemmas.List.{append-nil, length-take-le, take_more, take_more_set, at_drop_more, at_drop_all}
+use Rattle.std.proofs.lemmas.List.{take_more, at_drop_more, at_drop_all}
+use Rattle.instructions.specs.declared.store.Store.{Store}
+use Rattle.instructions.specs.declared.store.Full.{Full}
+use Rattle.instructions.specs.Stores.{stored, Kept}
 use Rattle.instructions.specs.Words.{instruction_of}
 use Rattle.programs.specs.Rules.{Place, start, onward, led, lead_to, concluded, judged_at, judged}
 use Rattle.programs.specs.declared.fault.RuleFault.{RuleFault}
@@ -9,43 +12,51 @@ use Rattle.programs.specs.Counts.{starts_if, start_at, starts_of}
 use Rattle.programs.proofs.Rules.{led-append, led_refused, led_from_leads, leads_from_led, stepped, passed, starts_push}
 
 -- the words with one more
-pub words_more : (words : List ℕ) (p q : Place) (word : ℕ) → length words ≡ 4096 → onward (Ok p) word ≡ Ok q → take q.words (set words p.words word) ≡ take p.words words ++ word ∷ []
-words_more words p q word l e =
-    let s = stepped p q word e in
-    let r = s.room in
-    ap (λ n. take n (set words p.words word)) s.words ∙ take_more_set words p.words word (omega arith)
-
-pub leads_more : (words : List ℕ) (p q : Place) (word : ℕ) → length words ≡ 4096 → lead_to (take p.words words) p ≡ true → onward (Ok p) word ≡ Ok q → lead_to (take q.words (set words p.words word)) q ≡ true
-leads_more words p q word l h e =
-    leads_from_led (take q.words (set words p.words word)) q
-    (ap (led (Ok start)) (words_more words p q word l e)
-    ∙ led-append (Ok start) (take p.words words) (word ∷ [])
-    ∙ ap (λ r. onward r word) (led_from_leads (take p.words words) p h)
+pub leads_more : (words : List ℕ) (p q : Place) (word : ℕ) → lead_to words p ≡ true → onward (Ok p) word ≡ Ok q → lead_to (words ++ word ∷ []) q ≡ true
+leads_more words p q word h e =
+    leads_from_led (words ++ word ∷ []) q
+    (led-append (Ok start) words (word ∷ [])
+    ∙ ap (λ r. onward r word) (led_from_leads words p h)
     ∙ e)
 
--- the starts with one more, if the word starts a rung
-starts_at : (starts : List ℕ) (r m at : ℕ) (b : Bool) → m ≤ length starts → m ≡ cond b (r + 1) r → take m (cond (ltb r m) (set starts r at) starts) ≡ take r starts ++ cond b (at ∷ []) []
-starts_at starts r m at true l e =
-    let t : ltb r m ≡ true = grind (arith, nat_tests) in
-    rw t (ap (λ k. take k (set starts r at)) e ∙ take_more_set starts r at (omega arith))
-starts_at starts r m at false l e =
-    let t : ltb r m ≡ false = grind (arith, nat_tests) in
-    rw t (ap (λ k. take k starts) e ∙ sym (append-nil (take r starts)))
-
-pub starts_more : (starts words : List ℕ) (p q : Place) (word : ℕ) → length starts ≡ 128 → length words ≡ 4096 → lead_to (take p.words words) p ≡ true → take p.rungs starts ≡ starts_of (take p.words words) → onward (Ok p) word ≡ Ok q
-    → take q.rungs (cond (ltb p.rungs q.rungs) (set starts p.rungs p.words) starts) ≡ starts_of (take q.words (set words p.words word))
-starts_more starts words p q word ls lw h g e =
+-- there is room for it
+pub room_more : (words : List ℕ) (p q : Place) (word : ℕ) → lead_to words p ≡ true → onward (Ok p) word ≡ Ok q → length words + 1 ≤ 4096
+room_more words p q word h e =
     let s = stepped p q word e in
-    let few = s.few in
+    let t = passed start p words (led_from_leads words p h) in
     let room = s.room in
-    let ws = take p.words words in
-    let t = passed start p ws (led_from_leads ws p h) in
-    let len : 0 + length ws ≡ p.words = omega (arith, length-take-le p.words words (omega arith)) in
-    starts_at starts p.rungs q.rungs p.words (starts_if p.brackets (instruction_of word)) (omega arith) s.rungs
-    ∙ ap (λ l. l ++ start_at p.words p.brackets word) g
-    ∙ (λ j. starts_of ws ++ start_at (sym len j) (t.brackets_are j) word)
-    ∙ sym (starts_push 0 0 ws word)
-    ∙ ap starts_of (sym (words_more words p q word lw e))
+    let all = t.words_are in
+    omega arith
+
+pub kept_one : {U : Type 0} (before : Store) (word : ℕ) (answer : Result U Full) (after : Store) → length (stored before) + 1 ≤ 4096 → Kept before (word ∷ []) answer after → stored after ≡ stored before ++ word ∷ []
+kept_one before word (Ok u) after h k = k.1
+kept_one before word (Err f) after h k = let m = k.0 in absurd (omega arith)
+
+-- the starts with one more, if the word starts a rung
+starts_at : (r m at : ℕ) (b : Bool) → m ≡ cond b (r + 1) r → cond (ltb r m) (at ∷ []) [] ≡ cond b (at ∷ []) []
+starts_at r m at true e = let t : ltb r m ≡ true = grind (arith, nat_tests) in ap (λ b. cond b (at ∷ []) []) t
+starts_at r m at false e = let t : ltb r m ≡ false = grind (arith, nat_tests) in ap (λ b. cond b (at ∷ []) []) t
+
+pub starts_more : (starts words : List ℕ) (p q : Place) (word : ℕ) → lead_to words p ≡ true → starts ≡ starts_of words → onward (Ok p) word ≡ Ok q → starts ++ cond (ltb p.rungs q.rungs) (p.words ∷ []) [] ≡ starts_of (words ++ word ∷ [])
+starts_more starts words p q word h g e =
+    let s = stepped p q word e in
+    let t = passed start p words (led_from_leads words p h) in
+    let all = t.words_are in
+    let len : 0 + length words ≡ p.words = omega arith in
+    (λ j. g j ++ starts_at p.rungs q.rungs p.words (starts_if p.brackets (instruction_of word)) s.rungs j)
+    ∙ (λ j. starts_of words ++ start_at (sym len j) (t.brackets_are j) word)
+    ∙ sym (starts_push 0 0 words word)
+
+counted_at : (r m : ℕ) (b : Bool) → m ≡ cond b (r + 1) r → cond (ltb r m) (r + 1) r ≡ m
+counted_at r m true e = let t : ltb r m ≡ true = grind (arith, nat_tests) in ap (λ b. cond b (r + 1) r) t ∙ sym e
+counted_at r m false e = let t : ltb r m ≡ false = grind (arith, nat_tests) in ap (λ b. cond b (r + 1) r) t ∙ sym e
+
+pub count_more : (p q : Place) (word count : ℕ) → onward (Ok p) word ≡ Ok q → count ≡ p.rungs → cond (ltb p.rungs q.rungs) (count + 1) count ≡ q.rungs
+count_more p q word count e c =
+    ap (λ n. cond (ltb p.rungs q.rungs) (n + 1) n) c ∙ counted_at p.rungs q.rungs (starts_if p.brackets (instruction_of word)) (stepped p q word e).rungs
+
+pub count_below : (r m count : ℕ) → count ≡ r → m ≤ 128 → ltb r m ≡ true → count < 128
+count_below r m count e h t = grind (arith, nat_tests)
 
 -- words taken one by one: one more, a refusal, and the end
 pub led-more : (words : List ℕ) (i : ℕ) (p q : Place) → i < length words → led (Ok p) (drop i words) ≡ led (Ok start) words → onward (Ok p) (get_or words i 0) ≡ Ok q → led (Ok q) (drop (i + 1) words) ≡ led (Ok start) words

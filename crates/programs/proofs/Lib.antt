@@ -1,5 +1,4 @@
 pub mod Surveys
 pub mod Rules
 pub mod Drafts
-pub mod Stores
 pub mod Rungs

@@ -1,5 +1,6 @@
 -- What a draft holds, and what becomes of it.
-use Rattle.std.specs.Prelude.{◌≡◌, ℕ, List, [], ◌∷◌, ◌++◌, take, Ok, Err, Result}
+use Rattle.std.specs.Prelude.{◌≡◌, ℕ, List, [], ◌∷◌, ◌++◌, Ok, Err, Result}
+use Rattle.instructions.specs.Stores.{stored}
 use Rattle.programs.specs.declared.draft.Draft.{Draft}
 use Rattle.programs.specs.declared.fault.RuleFault.{RuleFault}
 use Rattle.programs.specs.Rules.{Place, onward}
@@ -7,7 +8,7 @@ use Rattle.programs.specs.Places.{place_of}
 
 -- the words of a draft
 abbrev pub drafted : Draft → List ℕ
-drafted d = take d.checker.words d.words
+drafted d = stored d.words
 
 -- where a draft stands
 abbrev pub standing : Draft → Place

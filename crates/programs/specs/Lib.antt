@@ -6,3 +6,4 @@ pub mod Surveys
 pub mod Drafts
 pub mod Programs
 pub mod Passing
+pub mod Starts

@@ -1,11 +1,12 @@
 -- What a program holds, and which words become one.
-use Rattle.std.specs.Prelude.{◌≡◌, ℕ, List, take, Ok, Err, Result}
+use Rattle.std.specs.Prelude.{◌≡◌, ℕ, List, Ok, Err, Result}
+use Rattle.instructions.specs.Stores.{stored}
 use Rattle.programs.specs.declared.program.Program.{Program}
 use Rattle.programs.specs.declared.fault.RuleFault.{RuleFault}
 
 -- the words of a program
 abbrev pub held : Program → List ℕ
-held p = take p.len p.words
+held p = stored p.words
 
 -- words that the verdict accepts become a program; others are refused for the rule that they break
 abbrev pub Taken : List ℕ → Result Unit RuleFault → Result Program RuleFault → Type 0

@@ -6,15 +6,15 @@ ghost use Rattle.programs.specs.Faults.{rule_number};
 #[derive(Clone, Copy)]
 pub enum RuleFault {
     /// The instruction is not allowed in its state.
-    NotAllowed,
+    NotAllowed = 13,
     /// It would open a sixteenth bracket.
-    TooDeep,
+    TooDeep = 10,
     /// It would start rung 129.
-    TooManyRungs,
+    TooManyRungs = 5,
     /// It would be word 4,097.
-    TooLong,
+    TooLong = 11,
     /// The words end opened or joining.
-    Unfinished,
+    Unfinished = 14,
 }
 
 impl RuleFault {
@@ -22,12 +22,6 @@ impl RuleFault {
     pub fn number(self) -> u8
         ensures { result ≡ rule_number self }
     {
-        match self {
-            RuleFault::NotAllowed => 13,
-            RuleFault::TooDeep => 10,
-            RuleFault::TooManyRungs => 5,
-            RuleFault::TooLong => 11,
-            RuleFault::Unfinished => 14,
-        }
+        self as u8
     }
 }

@@ -6,6 +6,7 @@ mod checker;
 mod draft;
 mod fault;
 mod program;
+mod starts;
 mod survey;
 
 pub use agreement::rules_agree;

@@ -1,14 +1,13 @@
 //! How many rungs words have, and how deep their brackets go.
 ghost use Rattle.std.specs.Prelude.{◌≡◌, ◌+◌, ◌^◌, ◌<◌};
 ghost use Rattle.instructions.specs.Words.{instruction_of};
-ghost use Rattle.instructions.specs.Depth.{opened_if};
 ghost use Rattle.programs.specs.Counts.{starts_if, counts as counts_of};
 ghost use Rattle.programs.specs.Surveys.{seen_at, seen_after};
 
-use instructions::Instruction;
+use instructions::{Instruction, brackets_after};
 
 /// What has been seen of a row of words.
-#[derive(Clone, Copy)]
+#[derive(Clone, Copy, Default)]
 struct Survey {
     /// Brackets that are open.
     brackets: usize,
@@ -22,12 +21,8 @@ struct Survey {
 pub fn counts(words: &[u16]) -> (usize, usize, usize, usize)
     ensures { result ≡ counts_of words.now }
 {
-    let mut seen = Survey {
-        brackets: 0,
-        rungs: 0,
-        depth: 0,
-        first: 0,
-    };
+    // Kept as a loop: that no count overflows is known only from how many words have come.
+    let mut seen = Survey::default();
     for word in words {
         seen = seen.after(*word);
     }
@@ -41,7 +36,7 @@ impl Survey {
         requires rungs { self.rungs + 1 < 2 ^ 64 }
         ensures { result ≡ seen_after self (instruction_of word) }
     {
-        let instruction = Instruction::from_word(word);
+        let instruction = Instruction::try_from(word).ok();
         self.at(
             brackets_after(self.brackets, instruction),
             starts_rung(self.brackets, instruction),
@@ -70,24 +65,13 @@ impl Survey {
     }
 }
 
-/// How many brackets are open after an instruction.
-fn brackets_after(brackets: usize, instruction: Option<Instruction>) -> usize
-    requires { brackets + 1 < 2 ^ 64 }
-    ensures { result ≡ opened_if brackets instruction }
-{
-    match instruction {
-        Some(Instruction::AndOpen | Instruction::OrOpen) => brackets + 1,
-        Some(Instruction::Close) => brackets.saturating_sub(1),
-        _ => brackets,
-    }
-}
-
 /// A rung starts at each load with no bracket open.
 fn starts_rung(brackets: usize, instruction: Option<Instruction>) -> bool
     ensures { result ≡ starts_if brackets instruction }
 {
-    match instruction {
-        Some(Instruction::Load(_) | Instruction::LoadNot(_)) => brackets == 0,
-        _ => false,
-    }
+    brackets == 0
+        && matches!(
+            instruction,
+            Some(Instruction::Load(_) | Instruction::LoadNot(_))
+        )
 }

@@ -3,7 +3,6 @@ ghost use Rattle.std.specs.Prelude.{◌≡◌, []};
 ghost use Rattle.instructions.specs.Stores.{stored, Kept};
 
 use super::{Full, Store};
-use crate::text::write_all;
 
 impl Store {
     /// A store with no words.
@@ -38,7 +37,9 @@ impl Store {
         if words.len() > 4096 - start {
             return Err(Full);
         }
-        self.len = write_all(&mut self.words, start, words);
+        let end = start + words.len();
+        self.words[start..end].copy_from_slice(words);
+        self.len = end;
         Ok(())
     }
 }

@@ -6,32 +6,32 @@ ghost use Rattle.programs.specs.Places.{place_of};
 use super::{Checker, State};
 use crate::fault::RuleFault;
 use instructions::{Instruction, Operand};
-use points::Area;
+use points::{Area, Point};
 
 /// Whether a coil may drive the operand: an output or a marker.
 fn drivable(operand: Operand) -> bool
     ensures { result ≡ drives operand }
 {
-    match operand {
-        Operand::True => false,
-        Operand::At(point) => match point.area {
-            Area::Input => false,
-            Area::Output | Area::Marker => true,
-        },
-    }
+    matches!(
+        operand,
+        Operand::At(Point {
+            area: Area::Output | Area::Marker,
+            ..
+        })
+    )
 }
 
 /// Whether the instruction is a coil that may drive its operand.
 fn coil_drives(instruction: Instruction) -> bool
     ensures { result ≡ coil_drives instruction }
 {
-    match instruction {
-        Instruction::Store(operand) => drivable(operand),
-        Instruction::StoreNot(operand) => drivable(operand),
-        Instruction::Set(operand) => drivable(operand),
-        Instruction::Reset(operand) => drivable(operand),
-        _ => false,
-    }
+    matches!(
+        instruction,
+        Instruction::Store(operand)
+            | Instruction::StoreNot(operand)
+            | Instruction::Set(operand)
+            | Instruction::Reset(operand) if drivable(operand)
+    )
 }
 
 impl Checker {

@@ -1,5 +1,5 @@
 //! Making a program, instruction by instruction.
-ghost use Rattle.std.specs.Prelude.{◌≡◌, ◌<◌, ◌≤◌, [], ◌∷◌, ◌++◌, length, if◌then◌else◌, Some, Ok, nat_lt, slice_set};
+ghost use Rattle.std.specs.Prelude.{◌≡◌, ◌<◌, ◌≤◌, [], ◌∷◌, ◌++◌, Some, Ok};
 ghost use Rattle.instructions.specs.Words.{instruction_of};
 ghost use Rattle.programs.specs.Rules.{start, onward, concluded};
 ghost use Rattle.programs.specs.Places.{place_of};
@@ -10,7 +10,8 @@ use super::Draft;
 use crate::checker::Checker;
 use crate::fault::RuleFault;
 use crate::program::Program;
-use instructions::Instruction;
+use crate::starts::Starts;
+use instructions::{Instruction, Store};
 
 impl Draft {
     /// A draft with no words.
@@ -20,8 +21,8 @@ impl Draft {
     {
         Draft {
             checker: Checker::new(),
-            words: [0; 4096],
-            starts: [0; 128],
+            words: Store::new(),
+            starts: Starts::new(),
         }
     }
 
@@ -29,9 +30,9 @@ impl Draft {
     pub fn add(&mut self, word: u16) -> Result<(), RuleFault>
         ensures { Added self.old word result self.new }
     {
-        match Instruction::from_word(word) {
-            None => Err(RuleFault::NotAllowed),
-            Some(instruction) => self.add_as(instruction, word),
+        match Instruction::try_from(word) {
+            Ok(instruction) => self.add_as(instruction, word),
+            Err(_) => Err(RuleFault::NotAllowed),
         }
     }
 
@@ -39,15 +40,11 @@ impl Draft {
     pub fn finish(&self) -> Result<Program, RuleFault>
         ensures { Taken (drafted self.now) (concluded (standing self.now)) result }
     {
-        match self.checker.finish() {
-            Err(fault) => Err(fault),
-            Ok(()) => Ok(Program {
-                words: self.words,
-                len: self.checker.words,
-                starts: self.starts,
-                rungs: self.checker.rungs,
-            }),
-        }
+        self.checker.finish()?;
+        Ok(Program {
+            words: self.words,
+            starts: self.starts,
+        })
     }
 
     fn add_as(&mut self, instruction: Instruction, word: u16) -> Result<(), RuleFault>
@@ -55,13 +52,9 @@ impl Draft {
         ensures { Added self.old word result self.new }
     {
         let mut checker = self.checker;
-        match checker.step(instruction) {
-            Err(fault) => Err(fault),
-            Ok(()) => {
-                self.enter(checker, word);
-                Ok(())
-            }
-        }
+        checker.step(instruction)?;
+        self.enter(checker, word);
+        Ok(())
     }
 
     /// Keeps a word that leads the checker on.
@@ -70,20 +63,9 @@ impl Draft {
         ensures place { standing self.new ≡ place_of checker }
         ensures words { drafted self.new ≡ drafted self.old ++ word ∷ [] }
     {
-        let at = self.checker.words;
-        let rungs = self.checker.rungs;
-        note_start(&mut self.starts, rungs, checker.rungs, at as u16);
-        self.words[at] = word;
+        let begins = checker.rungs > self.checker.rungs;
+        self.starts.note(self.checker.words as u16, begins);
+        let _ = self.words.append(&[word]);
         self.checker = checker;
-    }
-}
-
-/// Notes where a rung starts, if there is one more.
-fn note_start(starts: &mut [u16], rungs: usize, more: usize, at: u16)
-    requires { more ≤ length starts.old }
-    ensures { starts.new ≡ (if nat_lt rungs more then slice_set starts.old rungs at else starts.old) }
-{
-    if rungs < more {
-        starts[rungs] = at;
     }
 }

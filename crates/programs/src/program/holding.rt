@@ -1,12 +1,12 @@
 //! What a program says of itself.
 ghost use Rattle.std.specs.Prelude.{◌≡◌, []};
 ghost use Rattle.instructions.specs.Lines.{listing};
-ghost use Rattle.instructions.specs.Stores.{stored};
 ghost use Rattle.instructions.specs.Reports.{status_line, Written};
 ghost use Rattle.programs.specs.Counts.{starts_of, counts as counts_of};
 ghost use Rattle.programs.specs.Programs.{held};
 
 use super::Program;
+use crate::starts::Starts;
 use crate::survey;
 use instructions::{ShortBuffer, Store};
 
@@ -16,10 +16,8 @@ impl Program {
         ensures { held result ≡ [] }
     {
         Program {
-            words: [0; 4096],
-            len: 0,
-            starts: [0; 128],
-            rungs: 0,
+            words: Store::new(),
+            starts: Starts::new(),
         }
     }
 
@@ -27,14 +25,14 @@ impl Program {
     pub fn words(&self) -> &[u16]
         ensures { result.now ≡ held self.now }
     {
-        &self.words[0..self.len]
+        self.words.words()
     }
 
     /// Where its rungs start.
     pub fn starts(&self) -> &[u16]
         ensures { result.now ≡ starts_of (held self.now) }
     {
-        &self.starts[0..self.rungs]
+        self.starts.places()
     }
 
     /// Rungs, words, greatest depth, and the first rung with that depth; 0 if there are no rungs.
@@ -48,7 +46,7 @@ impl Program {
     pub fn write_listing(&self, buffer: &mut [u8]) -> Result<usize, ShortBuffer>
         ensures { Written (listing (held self.now)) buffer.old result buffer.new }
     {
-        self.stored().write_listing(buffer)
+        self.words.write_listing(buffer)
     }
 
     /// Writes the status line: its length is answered, later bytes stay.
@@ -56,14 +54,5 @@ impl Program {
         ensures { Written (status_line (counts_of (held self.now))) buffer.old result buffer.new }
     {
         instructions::write_status(self.counts(), buffer)
-    }
-
-    /// Its words in a store, from which they are written.
-    fn stored(&self) -> Store
-        ensures { stored result ≡ held self.now }
-    {
-        let mut store = Store::new();
-        let _ = store.append(self.words());
-        store
     }
 }

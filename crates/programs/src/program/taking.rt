@@ -23,12 +23,8 @@ impl Program {
     pub fn take_over(&mut self, draft: &Draft) -> Result<(), RuleFault>
         ensures { Replaced self.old (drafted draft.now) (concluded (standing draft.now)) result self.new }
     {
-        match draft.finish() {
-            Err(fault) => Err(fault),
-            Ok(program) => {
-                *self = program;
-                Ok(())
-            }
-        }
+        let program = draft.finish()?;
+        *self = program;
+        Ok(())
     }
 }

@@ -1,9 +1,9 @@
-use Rattle.std.proofs.Common.{refl, arith}
+use Rattle.std.proofs.Common.{rules, arith}
 use Rattle.programs.proofs.Surveys.{surveyed_none, surveyed_more, surveyed_all}
 use Rattle.programs.proofs.survey.counts.Goals as goal
 
 pub loop-word-init : goal.loop-word-init
-loop-word-init c = surveyed_none c.args.words.now _ refl
+loop-word-init c = surveyed_none c.args.words.now _ (search rules)
 
 pub after-seen-requires : goal.after-seen-requires
 after-seen-requires c =

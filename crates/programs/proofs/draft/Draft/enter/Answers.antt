@@ -1,23 +1,32 @@
-use Rattle.std.proofs.Common.{take, refl, ap, ◌∙◌, arith}
+use Rattle.std.proofs.Common.{ap, ◌∙◌, sym}
+use Rattle.instructions.specs.Stores.{stored}
 use Rattle.programs.specs.Places.{place_of}
-use Rattle.programs.proofs.Rules.{stepped}
-use Rattle.programs.proofs.Drafts.{words_more, leads_more, starts_more}
+use Rattle.programs.specs.Rules.{lead_to}
+use Rattle.programs.specs.Counts.{starts_of}
+use Rattle.programs.proofs.Drafts.{leads_more, room_more, kept_one, starts_more, count_more, count_below}
 use Rattle.programs.proofs.draft.Draft.enter.Goals as goal
 
-pub bounds-self-at : goal.bounds-self-at
-bounds-self-at c = (stepped (place_of c.args.self.now.checker) (place_of c.args.checker) c.args.word c.requires).room
+pub note-requires : goal.note-requires
+note-requires c =
+    let d = c.args.self.now in
+    λ t. count_below d.checker.rungs c.args.checker.rungs d.starts.len d.counted c.args.checker.few t
 
 pub invariant_of-self : goal.invariant_of-self
 invariant_of-self c =
     let d = c.args.self.now in
     let p = place_of d.checker in
     let q = place_of c.args.checker in
+    let ws = stored d.words in
+    let word = c.args.word in
+    let k = kept_one d.words word c.append.result c.append.new.self (room_more ws p q word d.leads c.requires) c.append.ensures in
     record {
-      leads = leads_more d.words p q c.args.word (omega arith) d.leads c.requires;
-      started = ap (take c.args.checker.rungs) c.note_start.ensures ∙ starts_more d.starts d.words p q c.args.word (omega arith) (omega arith) d.leads d.started c.requires;
+      leads = ap (λ l. lead_to l q) k ∙ leads_more ws p q word d.leads c.requires;
+      started = c.note.ensures.value ∙ starts_more _ ws p q word d.leads d.started c.requires ∙ ap starts_of (sym k);
+      counted = c.note.ensures.len ∙ count_more p q word d.starts.len c.requires d.counted;
     }
 
-pub returns : goal.returns
-returns c =
+pub returns-clause-words : goal.returns-clause-words
+returns-clause-words c =
     let d = c.args.self.now in
-    record { place = refl; words = words_more d.words (place_of d.checker) (place_of c.args.checker) c.args.word (omega arith) c.requires }
+    let word = c.args.word in
+    kept_one d.words word c.append.result c.append.new.self (room_more (stored d.words) (place_of d.checker) (place_of c.args.checker) word d.leads c.requires) c.append.ensures
