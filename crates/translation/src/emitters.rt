@@ -72,7 +72,7 @@ impl Emitter<'_> {
         requires { Room self.old (coils_at self.old) }
         ensures { Adds self.old (coils_at self.old) self.new }
     {
-        for each in &self.rung.coils {
+        for each in self.rung.coils.iter() {
             self.push(coil(*each));
         }
     }

@@ -1,6 +1,5 @@
 use Rattle.std.proofs.Common.{length, refl, sym, ap, subst, arith}
-use Rattle.elimination.specs.Reduction.{Loopless}
-use Rattle.elimination.proofs.Placing.{placed-none, placed-more, rung_loopless}
+use Rattle.elimination.proofs.Placing.{Loopless, placed-none, placed-more, rung_loopless}
 use Rattle.elimination.proofs.reduction.Reduction.of.Goals as goal
 
 pub loop-i-init : goal.loop-i-init
