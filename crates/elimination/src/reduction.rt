@@ -69,7 +69,7 @@ impl Reduction {
     fn pick(&self, gone: &[bool; 32]) -> Option<Passage>
         ensures { Picked self.now.joints gone.now self.now.slots result }
     {
-        // Kept as a loop: a closure over the position is not told that the joint's number fits a byte.
+        // Kept as a loop: of `(1..).zip(..).find_map(..)` it was not proved which joint it answers.
         for (i, gone) in gone[1..self.joints as usize - 1].iter().enumerate() {
             if let Some(passage) = candidate(&self.slots, *gone, i as u8 + 1) {
                 return Some(passage);

@@ -52,13 +52,6 @@ impl Table {
             .unwrap_or(Node::Link(0))
     }
 
-    /// Forgets the nodes.
-    pub(crate) fn clear(&mut self)
-        ensures { self.new.nodes.items ≡ [] }
-    {
-        self.nodes.clear();
-    }
-
     /// Puts a node whose parts stand in the table at its end, and gives its position.
     pub(crate) fn push(&mut self, node: Node) -> u8
         requires room { length self.old.nodes.items < 127 }
