@@ -1,8 +1,9 @@
 -- Where a bit stands, and a field one bit longer. Assumes nothing.
-use Rattle.std.proofs.Common.{◌≡◌, ℕ, zero, suc, ◌+◌, ◌-◌, ◌*◌, ◌/◌, ◌%◌, ◌^◌, ◌<◌, ◌≤◌, List, [], ◌∷◌, ◌++◌, length, get_or, take, drop, None, Some, Option, Bor, sym, refl, ap, ◌∙◌, zero-add, arith, length-drop, get_or-drop, pow_mono, pow-add}
+use Rattle.std.proofs.Common.{◌≡◌, ℕ, zero, suc, ◌+◌, ◌-◌, ◌*◌, ◌/◌, ◌%◌, ◌^◌, ◌<◌, ◌≤◌, List, [], ◌∷◌, ◌++◌, length, get_or, take, drop, None, Some, Option, Bor, sym, refl, ap, ◌∙◌, zero-add, subst, arith, length-append, pow_mono, pow-add}
 use Rattle.std.specs.Option.{MatchOption, option_map, unwrap_or}
 use Rattle.std.proofs.Math.Nat.{zero-div}
-use Rattle.std.proofs.lemmas.List.{take_more}
+use Rattle.std.specs.List.{fold, range_with_len}
+use Rattle.std.proofs.lemmas.List.{drop_more}
 use Rattle.cards.specs.Bits.{byte_bits, bits, number_on, field_of}
 
 one : (b k : ℕ) (rest : List ℕ) → k < 8 → get_or (byte_bits b ++ rest) k 0 ≡ b / 2 ^ (7 - k) % 2
@@ -50,23 +51,20 @@ pub length-bits : (bs : List ℕ) → length (bits bs) ≡ 8 * length bs
 length-bits [] = refl
 length-bits (b ∷ bs) = let h = length-bits bs in omega arith
 
-number_push : (n : ℕ) (bs : List ℕ) (b : ℕ) → number_on n (bs ++ b ∷ []) ≡ number_on n bs * 2 + b
-number_push n [] b = refl
-number_push n (c ∷ bs) b = number_push (n * 2 + c) bs b
+-- a field by its bits one after the other
+fold_number : (bs : List ℕ) (n p w : ℕ) → p + w ≤ length (bits bs) → fold (λ a i. a * 2 + get_or (bits bs) i 0) n (range_with_len p w) ≡ number_on n (take w (drop p (bits bs)))
+fold_number bs n p zero h = refl
+fold_number bs n p (suc w) h =
+    fold_number bs (n * 2 + get_or (bits bs) p 0) (p + 1) w (omega arith)
+    ∙ sym (ap (λ (l : List ℕ). number_on n (take (suc w) l)) (drop_more (bits bs) p 0 (omega arith)))
 
-pub field-none : (bs : List ℕ) (p : ℕ) → field_of bs p 0 ≡ 0
+pub fold_field : (bs : List ℕ) (p w : ℕ) → p + w ≤ 8 * length bs → fold (λ a i. a * 2 + get_or (bits bs) i 0) 0 (range_with_len p w) ≡ field_of bs p w
 unfolding field_of
-field-none bs p = refl
+fold_field bs p w h = fold_number bs 0 p w (omega (arith, length-bits bs))
 
-pub field-more : (bs : List ℕ) (p w : ℕ) → p + w < 8 * length bs → field_of bs p (w + 1) ≡ field_of bs p w * 2 + get_or (bits bs) (p + w) 0
-unfolding field_of
-field-more bs p w h =
-    let ds = drop p (bits bs) in
-    let l : w < length ds = omega (arith, length-drop p (bits bs), length-bits bs) in
-    ap (number_on 0) (take_more ds w 0 l) ∙ number_push 0 (take w ds) (get_or ds w 0) ∙ ap (λ x. number_on 0 (take w ds) * 2 + x) (get_or-drop p (bits bs) w 0)
+-- one bit more
+pub doubled : {A : Type 0} (xs : List A) (x : A) (v w : ℕ) → v < 2 ^ length xs → w < v * 2 + 2 → w < 2 ^ length (xs ++ x ∷ [])
+doubled xs x v w h l = subst (λ (n : ℕ). w < 2 ^ n) (sym (length-append xs (x ∷ []))) (omega (arith, pow-add 2 (length xs) 1))
 
-pub less_more : (v b k : ℕ) → v < 2 ^ k → b < 2 → v * 2 + b < 2 ^ (k + 1)
-less_more v b k h l = omega (arith, pow-add 2 k 1)
-
-pub less_16 : (v b k : ℕ) → v < 2 ^ k → b < 2 → k < 16 → v * 2 + b < 65536
-less_16 v b k h l w = let q : k + 1 ≤ 16 = omega arith in omega (arith, less_more v b k h l, pow_mono q)
+pub below_15 : (v k : ℕ) → v < 2 ^ k → k < 16 → v < 32768
+below_15 v k h l = let q : k ≤ 15 = omega arith in omega (arith, pow_mono q)

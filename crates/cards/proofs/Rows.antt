@@ -15,11 +15,6 @@ use Rattle.cards.specs.Rungs.{and_then, row_at, fault_at, contact_of, link_of, l
 pub there : (width : ℕ) {r : Result ℕ CardFault} {bytes now : List ℕ} {at place v : ℕ} → r ≡ field_at now place width → r ≡ Ok v → now ≡ bytes → place ≡ at → field_at bytes at width ≡ Ok v
 there width e h c d = (λ i. field_at (sym c i) (sym d i) width) ∙ sym e ∙ h
 
--- what holds whichever way
-pub both : {X : Type 0} (r : Result X CardFault) (P : Type 0) → P → IfOk r (λ _. P)
-both (Ok x) P p = p
-both (Err e) P p = tt
-
 -- nothing is asked after a fault
 pub free : {X : Type 0} {r : Result X CardFault} {y : CardFault} (P : X → Type 0) → r ≡ Err y → IfOk r P
 free {X} {r} {y} P e = let Q : Result X CardFault → Type 0 = λ x. IfOk x P in subst Q (sym e) tt

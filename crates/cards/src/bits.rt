@@ -27,10 +27,7 @@ impl Bits<'_> {
         if self.bytes.len() < ((end + 7) / 8) as usize {
             return Err(CardCause::EndsEarly.at(start));
         }
-        let mut value = 0u16;
-        for i in start..end {
-            value = value * 2 + bit(self.bytes, i) as u16;
-        }
+        let value = (start..end).fold(0, |value, i| value * 2 + bit(self.bytes, i) as u16);
         self.at = end;
         Ok(value)
     }

@@ -1,25 +1,7 @@
-use Rattle.std.proofs.Common.{◌≡◌, ◌+◌, ◌*◌, ◌≤◌, sym, refl, ◌∙◌, arith}
-use Rattle.std.proofs.Math.Nat.{mul-le-mul_left}
+use Rattle.std.proofs.Common.{◌≡◌, ◌+◌, ◌*◌, sym, ◌∙◌, arith}
 use Rattle.std.proofs.lemmas.Result.{err_from_is_err_and}
-use Rattle.cards.proofs.Rows.{filled_none, filled_more, filled_fault, filled_all, took_fault, free}
+use Rattle.cards.proofs.Rows.{filled_more, filled_fault, filled_all, took_fault}
 use Rattle.cards.proofs.bits.Bits.fill.Goals as goal
-
-pub loop-init : goal.loop-init
-loop-init g c =
-    let part = g.T.Part.part_at c.args.self.now.bytes.now c.args.joints in
-    let e = c.requires.empty in
-    record {
-      at = omega arith;
-      same = refl;
-      filled = rw (c.requires.empty) (filled_none part g.T.Part.width c.args.count c.args.self.now.at);
-      many = grind (arith, e);
-    }
-
-pub read-requires : goal.read-requires
-read-requires g c =
-    let w = g.T.Part.width in
-    let m : w * (c.loop.counter + 1) ≤ w * c.args.count = mul-le-mul_left w (omega arith) in
-    omega (arith, c.loop.invariant.at, c.requires.near)
 
 pub returns-in_err-read-clause-value : goal.returns-in_err-read-clause-value
 returns-in_err-read-clause-value g c =
@@ -27,11 +9,6 @@ returns-in_err-read-clause-value g c =
     let is : part (c.args.self.now.at + g.T.Part.width * c.loop.counter) ≡ _ = sym (rw (c.loop.invariant.same, c.loop.invariant.at) at c.read.ensures.value) ∙ c.in_err-read.was in
     let out = err_from_is_err_and c.from_residual.result c.from_residual.ensures.1 in
     took_fault _ (filled_fault part g.T.Part.width c.args.count c.args.self.now.at c.loop.counter c.loop.row.items _ (omega arith) is c.loop.invariant.filled) out.1 out.2
-
-pub returns-in_err-read-clause-ahead : goal.returns-in_err-read-clause-ahead
-returns-in_err-read-clause-ahead g c =
-    let out = err_from_is_err_and c.from_residual.result c.from_residual.ensures.1 in
-    (c.read.ensures.ahead.0 ∙ c.loop.invariant.same, free _ out.1)
 
 pub loop-preserved : goal.loop-preserved
 loop-preserved g c =
