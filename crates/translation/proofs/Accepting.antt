@@ -13,7 +13,6 @@ use Rattle.cards.proofs.CardBits.{head_read, head_reads}
 use Rattle.cards.proofs.Endings.{end_read, end_reads}
 use Rattle.translation.specs.Judgement.{Verdict, Judged, ended, trailed, misread, crossed, deep, long, taken, CardJudged, headless, headed}
 use Rattle.translation.specs.Acceptance.{Written, none, more, Translates, AcceptedExactly}
-use Rattle.translation.proofs.Judging.{no_err}
 
 -- what stands behind the rungs read so far: more rungs, and then the padding
 record Ahead (bytes : List ℕ) (rungs k at : ℕ) (words out : List ℕ) : Type 0 where
@@ -44,11 +43,11 @@ ahead {bytes} {rungs} (ended at words e) out q w few =
       all = append-nil words ∙ same;
       few = subst (λ (l : List ℕ). length l ≤ 4096) same few;
     }
-ahead (trailed at words e h) out q w few = absurd (no_err q)
-ahead (misread k at words e h f) out q w few = absurd (no_err q)
-ahead (crossed k at words c h f g) out q w few = absurd (no_err q)
-ahead (deep k at words c new h f g s) out q w few = absurd (no_err q)
-ahead (long k at words c new h f g s r) out q w few = absurd (no_err q)
+ahead (trailed at words e h) out q w few = cc
+ahead (misread k at words e h f) out q w few = cc
+ahead (crossed k at words c h f g) out q w few = cc
+ahead (deep k at words c new h f g s) out q w few = cc
+ahead (long k at words c new h f g s r) out q w few = cc
 ahead {bytes} {rungs} (taken k at words c new v h f g s r j) out q w few =
     let read = rung_read bytes at c f in
     let room : length (words ++ new) ≤ 4096 = omega (arith, length-append words new) in
@@ -91,7 +90,7 @@ abbrev Accepted : List ℕ → List ℕ → Type 0
 Accepted bytes words = (cs : List Circuit) × Encoded bytes cs × (length cs ≤ 128) × AllByRecursion Drawable cs × Translates cs words
 
 encodes : {bytes : List ℕ} {v : Verdict} → CardJudged bytes v → (words : List ℕ) → v ≡ Ok words → Accepted bytes words
-encodes (headless e h) words q = absurd (no_err q)
+encodes (headless e h) words q = cc
 encodes {bytes} (headed rungs v h j) words q =
     let head = head_read bytes rungs h in
     let few = head.few in

@@ -17,12 +17,6 @@ use Rattle.translation.specs.declared.ladder_fault.LadderFault.TheVariants as la
 use Rattle.translation.specs.Translation.{Translated}
 use Rattle.translation.specs.Judgement.{Verdict, unfit, Judged, ended, trailed, misread, crossed, deep, long, taken, CardJudged, headless, headed, JudgedFrom, Told}
 
-pub no_ok : {A E : Type 0} {x : A} {e : E} → ◌≡◌ {A = Result A E} (Ok x) (Err e) → ⊥
-no_ok p = let z : ◌≡◌ {A = ℕ} 0 1 = cc in omega arith
-
-pub no_err : {A E : Type 0} {x : A} {e : E} → ◌≡◌ {A = Result A E} (Err e) (Ok x) → ⊥
-no_err p = let z : ◌≡◌ {A = ℕ} 0 1 = cc in omega arith
-
 -- the card reader's answer, with the rung in which it was asked
 abbrev pub in_rung : {A : Type 0} → Result A CardFault → ℕ → Result A InRung
 in_rung (Ok x) rung = Ok x
@@ -54,7 +48,7 @@ judged-at {bytes} {r} {r'} {k} {k'} {a} {a'} {ws} {ws'} {v} e f g h j =
 
 -- a rung that cannot be read
 pub misread_step : (bytes : List ℕ) (p p' : Progress) (s : Store) (r : Result (Option Rung) CardFault) (k : ℕ) (x : InRung) → k ≡ progress_rung p → RungRead bytes p r p' → in_rung r k ≡ Err x → JudgedFrom bytes p s (Err (ladder.Card x))
-misread_step bytes p p' s (Ok o) k x e R i = absurd (no_ok i)
+misread_step bytes p p' s (Ok o) k x e R i = cc
 misread_step bytes p p' s (Err d) k x e R i =
     let q : record { fault = d; rung = k } ≡ x = cc in
     let w = p.within in
@@ -70,15 +64,15 @@ pub record RungFound (bytes : List ℕ) (p : Progress) (rung : Rung) (p' : Progr
   pub at : p'.at ≡ p.at + rung_bits (circuit rung)
 
 pub rung_found : (bytes : List ℕ) (p p' : Progress) (r : Result (Option Rung) CardFault) (k : ℕ) (rung : Rung) → RungRead bytes p r p' → in_rung r k ≡ Ok (Some rung) → RungFound bytes p rung p'
-rung_found bytes p p' (Err d) k rung R i = absurd (no_err i)
-rung_found bytes p p' (Ok None) k rung R i = let z : ◌≡◌ {A = ℕ} 0 1 = cc in absurd (omega arith)
+rung_found bytes p p' (Err d) k rung R i = cc
+rung_found bytes p p' (Ok None) k rung R i = cc
 rung_found bytes p p' (Ok (Some x)) k rung R i =
     let q : x ≡ rung = cc in
     subst (λ (y : Rung). RungFound bytes p y p') q (record { reads = R.0; left = R.1; rungs = R.2; at = R.3 })
 
 -- a rung that is refused
 pub refused_step : {U : Type 0} (bytes : List ℕ) (p p' : Progress) (s s' : Store) (rung : Rung) (r : Result U RungFault) (k bit : ℕ) (x : AtRung) → k ≡ progress_rung p → bit ≡ p.at → RungFound bytes p rung p' → Translated (circuit rung) s r s' → at_rung r k bit ≡ Err x → JudgedFrom bytes p s (Err (ladder.Rung x))
-refused_step bytes p p' s s' rung (Ok u) k bit x e f R T i = absurd (no_ok i)
+refused_step bytes p p' s s' rung (Ok u) k bit x e f R T i = cc
 refused_step {U = U} bytes p p' s s' rung (Err d) k bit x e f R T i =
     let q : record { fault = d; rung = k; bit = bit } ≡ x = cc in
     subst (λ (y : AtRung). JudgedFrom bytes p s (Err (ladder.Rung y))) ((λ t. record { fault = d; rung = sym e t; bit = sym f t }) ∙ q) (by d T)
@@ -90,7 +84,7 @@ refused_step {U = U} bytes p p' s s' rung (Err d) k bit x e f R T i =
 
 -- a rung that is taken
 pub taken_step : {U : Type 0} (bytes : List ℕ) (p p' : Progress) (s s' : Store) (rung : Rung) (r : Result U RungFault) (k bit : ℕ) (u : U) → RungFound bytes p rung p' → Translated (circuit rung) s r s' → at_rung r k bit ≡ Ok u → (v : Verdict) → JudgedFrom bytes p' s' v → JudgedFrom bytes p s v
-taken_step bytes p p' s s' rung (Err d) k bit u R T i v j = absurd (no_err i)
+taken_step bytes p p' s s' rung (Err d) k bit u R T i v j = cc
 taken_step bytes p p' s s' rung (Ok x) k bit u R T i v j =
     let w = p.within in
     let w' = p'.within in
@@ -106,13 +100,13 @@ told_err {U} {bytes} s {r} {y} {z} e f j = subst (λ (x : Result U LadderFault).
 
 -- the head
 pub head_err : {bytes : List ℕ} (r : Result Progress CardFault) (x : InRung) → HeadRead bytes r → in_rung r 0 ≡ Err x → CardJudged bytes (Err (ladder.Card x))
-head_err (Ok p) x H i = absurd (no_ok i)
+head_err (Ok p) x H i = cc
 head_err {bytes} (Err d) x H i =
     let q : record { fault = d; rung = 0 } ≡ x = cc in
     subst (λ (y : InRung). CardJudged bytes (Err (ladder.Card y))) q (headless d H)
 
 pub head_ok : {bytes : List ℕ} (r : Result Progress CardFault) (p : Progress) (s : Store) → HeadRead bytes r → in_rung r 0 ≡ Ok p → stored s ≡ [] → (v : Verdict) → JudgedFrom bytes p s v → CardJudged bytes v
-head_ok (Err d) p s H i e v j = absurd (no_err i)
+head_ok (Err d) p s H i e v j = cc
 head_ok {bytes} (Ok q) p s H i e v j =
     let same : q ≡ p = cc in
     let h = subst (λ (x : Progress). HeadRead bytes (Ok x)) same H in
@@ -122,7 +116,7 @@ head_ok {bytes} (Ok q) p s H i e v j =
 
 -- behind the last rung
 pub end_err : {bytes : List ℕ} (p : Progress) (s : Store) (r : Result Unit CardFault) (k : ℕ) (x : InRung) → p.left ≡ 0 → k ≡ progress_rung p → r ≡ end_at bytes p.at → in_rung r k ≡ Err x → JudgedFrom bytes p s (Err (ladder.Card x))
-end_err p s (Ok u) k x l e R i = absurd (no_ok i)
+end_err p s (Ok u) k x l e R i = cc
 end_err {bytes} p s (Err d) k x l e R i =
     let w = p.within in
     let n : p.rungs ≡ progress_rung p = omega arith in
@@ -132,7 +126,7 @@ end_err {bytes} p s (Err d) k x l e R i =
     (trailed p.at (stored s) d (sym R)))
 
 pub end_ok : {bytes : List ℕ} (p : Progress) (s : Store) (r : Result Unit CardFault) (k : ℕ) (u : Unit) → p.left ≡ 0 → r ≡ end_at bytes p.at → in_rung r k ≡ Ok u → JudgedFrom bytes p s (Ok (stored s))
-end_ok p s (Err d) k u l R i = absurd (no_err i)
+end_ok p s (Err d) k u l R i = cc
 end_ok {bytes} p s (Ok x) k u l R i =
     let w = p.within in
     let n : p.rungs ≡ progress_rung p = omega arith in
@@ -140,9 +134,9 @@ end_ok {bytes} p s (Ok x) k u l R i =
 
 -- no rung is left
 pub none_left : (bytes : List ℕ) (p p' : Progress) (r : Result (Option Rung) CardFault) (k : ℕ) (o : Option Rung) → RungRead bytes p r p' → in_rung r k ≡ Ok o → o ≡ None → (p.left ≡ 0) × (p' ≡ p)
-none_left bytes p p' (Err d) k o R i n = absurd (no_err i)
+none_left bytes p p' (Err d) k o R i n = cc
 none_left bytes p p' (Ok None) k o R i n = R
-none_left bytes p p' (Ok (Some x)) k o R i n = let z : ◌≡◌ {A = ℕ} 0 1 = cc in absurd (omega arith)
+none_left bytes p p' (Ok (Some x)) k o R i n = cc
 
 pub stopped : (bytes : List ℕ) (p p' : Progress) (s : Store) → ((v : Verdict) → JudgedFrom bytes p s v → CardJudged bytes v) → (p.left ≡ 0) × (p' ≡ p) → (p'.left ≡ 0) × ((v : Verdict) → JudgedFrom bytes p' s v → CardJudged bytes v)
 stopped bytes p p' s inv h = (ap (λ (x : Progress). x.left) h.1 ∙ h.0, λ v j. inv v (subst (λ (x : Progress). JudgedFrom bytes x s v) h.1 j))

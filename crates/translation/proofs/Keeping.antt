@@ -358,20 +358,17 @@ coils-plain (x ∷ xs) h = (h.0, coils-plain xs h.1)
 pub rung_plain : (c : Circuit) → Drawable c → PlainRung c
 rung_plain c D = record { contacts = contacts-plain c.links D.contact_points; coils = coils-plain c.coils D.coil_points; some_coil = D.some_coil; drives = D.driven }
 
-no_err : {A E : Type 0} {x : A} {e : E} → ◌≡◌ {A = Result A E} (Err e) (Ok x) → ⊥
-no_err p = let z : ◌≡◌ {A = ℕ} 0 1 = cc in omega arith
-
 -- from rung k on: the words so far have led to a place where a program may end
 kept_from : {bytes : List ℕ} {rungs k at' : ℕ} {words all : List ℕ} → rungs ≤ 128 → (s : State) → loads s ≡ true → ends s ≡ true → led (Ok start) words ≡ Ok (at s 0 k (length words)) → (v : Verdict) → v ≡ Ok all → Judged bytes rungs k at' words v → keeps all ≡ true
 kept_from {all = all} m s l e p v q (ended at' words h) =
     let w : words ≡ all = cc in
     subst (λ (x : List ℕ). keeps x ≡ true) w
     (ap (λ r. accepted (judged_at r)) p ∙ ap (λ b. accepted {X = Unit} (cond b (Ok tt) (Err Unfinished))) e)
-kept_from m s l e p v q (trailed at' words x h) = absurd (no_err q)
-kept_from m s l e p v q (misread k at' words x n h) = absurd (no_err q)
-kept_from m s l e p v q (crossed k at' words c n h x) = absurd (no_err q)
-kept_from m s l e p v q (deep k at' words c new n h x y) = absurd (no_err q)
-kept_from m s l e p v q (long k at' words c new n h x y z) = absurd (no_err q)
+kept_from m s l e p v q (trailed at' words x h) = cc
+kept_from m s l e p v q (misread k at' words x n h) = cc
+kept_from m s l e p v q (crossed k at' words c n h x) = cc
+kept_from m s l e p v q (deep k at' words c new n h x y) = cc
+kept_from m s l e p v q (long k at' words c new n h x y z) = cc
 kept_from {bytes = bytes} m s l e p v q (taken k at' words c new v' n h x y z j) =
     let w = x.some.0 in
     let is : rung_words c w ≡ new = x.every w x.some.1 in
@@ -387,17 +384,17 @@ head_few : (bytes : List ℕ) (rungs : ℕ) → head_at bytes ≡ Ok rungs → r
 head_few bytes rungs e = by (field_at bytes 0 8) e
   where
     by : (r : Result ℕ CardFault) → and_then r few_rungs ≡ Ok rungs → rungs ≤ 128
-    by (Err d) e = absurd (no_err e)
+    by (Err d) e = cc
     by (Ok n) e = few (ltb 128 n) (leb_tells (suc 128) n) e
       where
         few : (b : Bool) → ((b ≡ true) × (suc 128 ≤ n)) ⊎ ((b ≡ false) × (n < suc 128)) → cond b (Err (fault_at TooManyRungs 0)) (Ok n) ≡ Ok rungs → rungs ≤ 128
-        few true t e = absurd (no_err e)
-        few false (inl t) e = let z : ◌≡◌ {A = ℕ} 0 1 = cc in absurd (omega arith)
+        few true t e = cc
+        few false (inl t) e = cc
         few false (inr t) e = let q : n ≡ rungs = cc in let h = t.1 in omega arith
 
 -- the words of an accepted card keep the rules
 pub card_keeps : (bytes words : List ℕ) (v : Verdict) → v ≡ Ok words → CardJudged bytes v → keeps words ≡ true
-card_keeps bytes words v q (headless e h) = absurd (no_err q)
+card_keeps bytes words v q (headless e h) = cc
 card_keeps bytes words v q (headed rungs v' h j) = kept_from (head_few bytes rungs h) Begun refl refl refl v' q j
 
 -- so a program never refuses them
@@ -405,8 +402,7 @@ pub never_refused : (bytes words ws : List ℕ) (e : RuleFault) → CardJudged b
 never_refused bytes words ws e j s q =
     let k : keeps ws ≡ true = ap keeps s ∙ card_keeps bytes words (Ok words) refl j in
     let f : keeps ws ≡ false = ap accepted q in
-    let z : ◌≡◌ {A = ℕ} 0 1 = cc in
-    omega arith
+    cc
 
 pub always_taken : (bytes words ws : List ℕ) (r : Result Program RuleFault) → CardJudged bytes (Ok words) → ws ≡ words → Taken ws (judged ws) r → IsOk r
 always_taken bytes words ws (Ok p) j s t = refl

@@ -8,7 +8,6 @@ use Rattle.translation.specs.declared.rung_fault.RungFault.TheVariants.{NotSerie
 use Rattle.translation.specs.Translation.{Listed, Shallow}
 use Rattle.translation.specs.Judgement.{Verdict, unread, unfit, Judged, ended, trailed, misread, crossed, deep, long, taken, CardJudged, headless, headed}
 use Rattle.translation.specs.Acceptance.{OneVerdict}
-use Rattle.translation.proofs.Judging.{no_ok}
 
 -- a rung has one listing
 listed_once : {c : Circuit} (a b : List ℕ) → Listed c a → Listed c b → a ≡ b
@@ -52,17 +51,17 @@ same_rung bytes at c d e f = cc
 
 misread_same : {bytes : List ℕ} {rungs k at : ℕ} {words : List ℕ} {v : Verdict} (e : CardFault) → rung_at bytes at ≡ Err e → Way bytes rungs k at words v → Err (unread e k) ≡ v
 misread_same {k = k} e f (unreadable d g q) = let same : e ≡ d = cc in ap (λ x. Err (unread x k)) same ∙ sym q
-misread_same e f (crossing c g x q) = absurd (no_ok (sym g ∙ f))
-misread_same e f (deepening c new g l s q) = absurd (no_ok (sym g ∙ f))
-misread_same e f (lengthening c new g l s r q) = absurd (no_ok (sym g ∙ f))
-misread_same e f (going c new g l s r j) = absurd (no_ok (sym g ∙ f))
+misread_same e f (crossing c g x q) = cc
+misread_same e f (deepening c new g l s q) = cc
+misread_same e f (lengthening c new g l s r q) = cc
+misread_same e f (going c new g l s r j) = cc
 
 module _ (bytes : List ℕ) (rungs k at : ℕ) (words : List ℕ) (c : Circuit) (f : rung_at bytes at ≡ Ok c) where
   listed_here : (d : Circuit) (new : List ℕ) → rung_at bytes at ≡ Ok d → Listed d new → Listed c new
   listed_here d new g l = subst (λ (x : Circuit). Listed x new) (same_rung bytes at d c g f) l
 
   crossed_same : {v : Verdict} → (SeriesParallel c → ⊥) → Way bytes rungs k at words v → Err (unfit NotSeriesParallel k at) ≡ v
-  crossed_same x (unreadable d g q) = absurd (no_ok (sym f ∙ g))
+  crossed_same x (unreadable d g q) = cc
   crossed_same x (crossing d g y q) = sym q
   crossed_same x (deepening d new g l s q) = absurd (x (listed_here d new g l).some)
   crossed_same x (lengthening d new g l s r q) = absurd (x (listed_here d new g l).some)
@@ -76,7 +75,7 @@ module _ (bytes : List ℕ) (rungs k at : ℕ) (words : List ℕ) (c : Circuit) 
     crossing_not d g y = y (subst SeriesParallel (same_rung bytes at c d f g) listed.some)
 
     deep_same : {v : Verdict} → (Shallow new → ⊥) → Way bytes rungs k at words v → Err (unfit TooDeep k at) ≡ v
-    deep_same x (unreadable d g q) = absurd (no_ok (sym f ∙ g))
+    deep_same x (unreadable d g q) = cc
     deep_same x (crossing d g y q) = absurd (crossing_not d g y)
     deep_same x (deepening d other g l s q) = sym q
     deep_same x (lengthening d other g l s r q) = absurd (x (subst Shallow (sym (same-words d other g l)) s))
@@ -84,14 +83,14 @@ module _ (bytes : List ℕ) (rungs k at : ℕ) (words : List ℕ) (c : Circuit) 
 
     module _ (shallow : Shallow new) where
       long_same : {v : Verdict} → (length words + length new ≤ 4096 → ⊥) → Way bytes rungs k at words v → Err (unfit TooLong k at) ≡ v
-      long_same x (unreadable d g q) = absurd (no_ok (sym f ∙ g))
+      long_same x (unreadable d g q) = cc
       long_same x (crossing d g y q) = absurd (crossing_not d g y)
       long_same x (deepening d other g l s q) = absurd (s (subst Shallow (same-words d other g l) shallow))
       long_same x (lengthening d other g l s r q) = sym q
       long_same x (going d other g l s r j) = absurd (x (subst (λ (n : List ℕ). length words + length n ≤ 4096) (sym (same-words d other g l)) r))
 
       taken_same : {v v' : Verdict} → length words + length new ≤ 4096 → (Judged bytes rungs (k + 1) (at + rung_bits c) (words ++ new) v' → v ≡ v') → Way bytes rungs k at words v' → v ≡ v'
-      taken_same x on (unreadable d g q) = absurd (no_ok (sym f ∙ g))
+      taken_same x on (unreadable d g q) = cc
       taken_same x on (crossing d g y q) = absurd (crossing_not d g y)
       taken_same x on (deepening d other g l s q) = absurd (s (subst Shallow (same-words d other g l) shallow))
       taken_same x on (lengthening d other g l s r q) = absurd (r (subst (λ (n : List ℕ). length words + length n ≤ 4096) (same-words d other g l) x))
@@ -117,8 +116,8 @@ one_verdict bytes v v' j i = both j i
   where
     both : {v v' : Verdict} → CardJudged bytes v → CardJudged bytes v' → v ≡ v'
     both (headless e h) (headless d g) = let same : e ≡ d = cc in ap (λ x. Err (unread x 0)) same
-    both (headless e h) (headed n w g i) = absurd (no_ok (sym g ∙ h))
-    both (headed m v h j) (headless d g) = absurd (no_ok (sym h ∙ g))
+    both (headless e h) (headed n w g i) = cc
+    both (headed m v h j) (headless d g) = cc
     both (headed m v h j) (headed n w g i) =
         let same : n ≡ m = cc in
         judged_once j (subst (λ (x : ℕ). Judged bytes x 0 8 [] w) same i)
