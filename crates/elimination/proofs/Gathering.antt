@@ -1,6 +1,6 @@
 -- A branch group, one slot at a time.
 use Rattle.std.proofs.Common.{◌≡◌, ℕ, zero, suc, ◌+◌, ◌<◌, ◌≤◌, min, List, [], ◌∷◌, ◌++◌, map, length, get_or, drop, Some, None, Option, sym, refl, ap, ◌∙◌, subst, ap₂, add-zero, append_assoc, length-append, arith}
-use Rattle.std.proofs.lemmas.List.{drop_all, append-nil, get_or-drop}
+use Rattle.std.proofs.lemmas.List.{get_or-drop}
 use Rattle.std.proofs.Math.Seq.{drop-append_seam}
 use Rattle.wiring.specs.Elimination.{Edge}
 use Rattle.wiring.specs.Text.{link_text, in_series, in_parallel, text}
@@ -15,9 +15,6 @@ use Rattle.elimination.specs.Trees.{tree_at}
 use Rattle.elimination.proofs.Edges.{touch_some}
 
 -- what a table that grows keeps
-pub grown-same : (ns : List Node) → Grown ns ns
-grown-same ns = record { more = omega arith; same = λ i h. refl }
-
 pub grown_on : {ns ns1 ns2 : List Node} → Grown ns ns1 → Grown ns1 ns2 → Grown ns ns2
 grown_on p q = record { more = (let a = p.more in let b = q.more in omega arith); same = λ i h. q.same i (let a = p.more in omega arith) ∙ p.same i h }
 
@@ -86,18 +83,6 @@ gathered_more i (Some a) l ns ns1 ns2 (Some k) r f h G p x =
 pub record Gathering (before : List (Option Active)) (s : Side) (x : ℕ) (xs : List (Option Active)) (ns ns' : List Node) (g : Option Group) : Type 0 where
   pub whole : before ++ drop (length before) xs ≡ xs
   pub done : Gathered (length before) (map (touch s x) (drop (length before) xs)) ns ns' g
-
-pub gathering_none : (before : List (Option Active)) (s : Side) (x : ℕ) (xs : List (Option Active)) (ns : List Node) → before ≡ xs → Gathering before s x xs ns ns None
-gathering_none before s x xs ns e =
-    let d : drop (length before) xs ≡ [] = drop_all (length before) xs (let n = ap length e in omega arith) in
-    record {
-      whole = ap (λ l. before ++ l) d ∙ append-nil before ∙ e;
-      done = subst (λ l. Gathered (length before) (map (touch s x) l) ns ns None) (sym d)
-          (record { grown = grown-same ns; room = refl; group = tt });
-    }
-
-pub gathering_all : (before : List (Option Active)) (s : Side) (x : ℕ) (xs : List (Option Active)) (ns ns' : List Node) (g : Option Group) → length before ≡ 0 → Gathering before s x xs ns ns' g → Gathered 0 (map (touch s x) xs) ns ns' g
-gathering_all before s x xs ns ns' g e G = subst (λ n. Gathered n (map (touch s x) (drop n xs)) ns ns' g) e G.done
 
 -- one slot back: it is the slot at its position
 pub record Back (left : List (Option Active)) (t : Option Active) (xs : List (Option Active)) : Type 0 where

@@ -1,15 +1,8 @@
-use Rattle.std.proofs.Common.{◌≡◌, ◌+◌, length, ap, ◌∙◌, arith}
+use Rattle.std.proofs.Common.{◌≡◌, ◌+◌, length, ◌∙◌, arith}
 use Rattle.std.specs.Iterator.Adapters.{rev_source, enumerate_source, enumerate_count}
 use Rattle.std.specs.Slice.Iter.{iter_rest}
-use Rattle.elimination.proofs.Gathering.{gathering_none, gathering_more, gathering_all, asks}
+use Rattle.elimination.proofs.Gathering.{gathering_more, asks}
 use Rattle.elimination.proofs.groups.gather.Goals as goal
-
-pub loop-i-init : goal.loop-i-init
-loop-i-init c =
-    let e = ap rev_source c.into_iter-i-iterator.ensures.into_iter_gives ∙ c.rev-i-items.ensures.source in (
-      ap enumerate_count e ∙ c.enumerate.ensures.count,
-      gathering_none _ c.args.side c.args.joint c.args.slots.now c.args.table.now.nodes.items (ap (λ z. iter_rest (enumerate_source z)) e ∙ ap iter_rest c.enumerate.ensures.source ∙ c.iter.ensures.rest),
-    )
 
 pub extend-group-requires : goal.extend-group-requires
 extend-group-requires c =
@@ -22,6 +15,3 @@ loop-i-preserved c =
       c.in-Some.ensures.steps.0 ∙ c.loop-i.invariant.0,
       gathering_more _ _ _ c.in-Some.i c.args.side c.args.joint c.args.slots.now c.args.table.now.nodes.items c.loop-i.table.nodes.items _ c.touching.result c.loop-i.group _ c.in-Some.ensures.steps.1.0 (omega (arith, i, c.loop-i.invariant.0)) c.told-slots c.requires.stands c.touching.ensures c.loop-i.invariant.1 c.extend-group.ensures.grown c.extend-group.ensures.value,
     )
-
-pub returns : goal.returns
-returns c = gathering_all _ c.args.side c.args.joint c.args.slots.now c.args.table.now.nodes.items c.loop-i.table.nodes.items c.loop-i.group c.in-None.ensures.steps.1.0 c.loop-i.invariant.1

@@ -4,10 +4,10 @@ use Rattle.elimination.proofs.Edges.{stands_grown, live_parts, touch-grown}
 use Rattle.elimination.proofs.Merging.{a_group, group_at, some_group, some_into, some_out, merged}
 use Rattle.elimination.proofs.groups.merge.Goals as goal
 
-pub gather-requires : goal.gather-requires
-gather-requires c =
+pub gather-requires-clause-room : goal.gather-requires-clause-room
+gather-requires-clause-room c =
     let p = live_parts c.args.passage.joint c.args.table.now.nodes.items c.args.slots.now c.requires.stands in
-    record { stands = c.requires.stands; room = omega (arith, p) }
+    omega (arith, p)
 
 pub unwrap-into-requires : goal.unwrap-into-requires
 unwrap-into-requires c =

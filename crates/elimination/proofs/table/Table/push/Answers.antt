@@ -8,12 +8,10 @@ invariant_of-self c =
     let ns = c.args.self.now.nodes.items in
     record { falls = ap (lower 0) c.push.ensures.items ∙ falls_more ns c.args.node c.args.self.now.falls c.requires.falls }
 
-pub returns : goal.returns
-returns c =
+pub returns-clause-tree : goal.returns-clause-tree
+returns-clause-tree c =
     let ns = c.args.self.now.nodes.items in
-    record {
-      value = c.len-at.ensures.value;
-      len = c.push.ensures.len;
-      tree = ap (λ z. tree_at z (length ns)) c.push.ensures.items ∙ tree_new ns c.args.node c.args.self.now.falls c.requires.falls;
-      same = λ i h. ap (λ z. tree_at z i) c.push.ensures.items ∙ tree_same ns c.args.node c.args.self.now.falls i h;
-    }
+    ap (λ z. tree_at z (length ns)) c.push.ensures.items ∙ tree_new ns c.args.node c.args.self.now.falls c.requires.falls
+
+pub returns-clause-same : goal.returns-clause-same
+returns-clause-same c = λ i h. ap (λ z. tree_at z i) c.push.ensures.items ∙ tree_same c.args.self.now.nodes.items c.args.node c.args.self.now.falls i h
