@@ -19,7 +19,7 @@ use Rattle.scanning.proofs.Staying.{unnamed_stay}
 
 both : (a b : Bool) → (a && b) ≡ true → (a ≡ true) × (b ≡ true)
 both true b h = (refl, h)
-both false b h = let z : ◌≡◌ {A = ℕ} 0 1 = cc in absurd (omega arith)
+both false b h = cc
 
 module _ {S : Type 0} (k : Kind S) where
   rejoined_open : (aside : List (S × Joining)) (m : Machine S) → m.aside ≡ aside → length (rejoined k aside m).aside ≡ length aside - 1
