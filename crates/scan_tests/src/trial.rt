@@ -55,9 +55,6 @@ impl Signal for Trial {
     }
 
     fn is_on(self) -> bool {
-        match self {
-            Trial::On => true,
-            Trial::Off | Trial::Left | Trial::Right | Trial::Many => false,
-        }
+        self == Trial::On
     }
 }

@@ -1,5 +1,5 @@
 -- A card that is not refused means rungs, and its words are their listings.
-use Rattle.std.proofs.Common.{◌≡◌, ℕ, ◌+◌, List, [], ◌∷◌, ◌++◌, length, Ok, Err, Result, sym, refl, ap, ◌∙◌, subst, arith}
+use Rattle.std.proofs.Common.{◌≡◌, ℕ, ◌+◌, List, [], ◌∷◌, ◌++◌, length, Ok, sym, refl, ap, ◌∙◌, subst, arith}
 use Rattle.std.proofs.lemmas.List.{append_assoc, append-nil}
 use Rattle.signals.specs.Kind.{Kind, Laws}
 use Rattle.wiring.specs.Circuit.{Circuit}
@@ -11,10 +11,8 @@ use Rattle.scanning.specs.Cards.{RungsFrom, CardMeans}
 use Rattle.scanning.specs.Listings.{Lists, Listings}
 use Rattle.scanning.specs.Machine.{scanned}
 use Rattle.scanning.proofs.Agreement.{scans_agree}
+use Rattle.scanning.proofs.Apart.{no_err}
 use Rattle.scanning.proofs.Numbers.{rung_numbered}
-
-no_err : {A E : Type 0} {e : E} {x : A} → ◌≡◌ {A = Result A E} (Err e) (Ok x) → ⊥
-no_err p = let z : ◌≡◌ {A = ℕ} 0 1 = cc in omega arith
 
 -- the rungs from a bit on, and their words behind those of the rungs before them
 record Found (bytes : List ℕ) (rungs k at : ℕ) (words all : List ℕ) : Type 0 where

@@ -1,5 +1,6 @@
 -- The brackets of words that keep the rules fit the working signals.
 use Rattle.std.proofs.Common.{◌≡◌, ℕ, ◌+◌, ◌<◌, ◌≤◌, Bool, true, false, cond, ◌&&◌, ltb, ◌⊎◌, List, [], ◌∷◌, Some, None, Ok, Err, Option, Result, sym, refl, ap, ◌∙◌, subst, inl, inr, arith}
+use Rattle.std.specs.Cmp.Derive.{both_true}
 use Rattle.std.proofs.lemmas.Bool.Decides.{nat_tests, leb_tells}
 use Rattle.instructions.specs.declared.instruction.Instruction.{Instruction}
 use Rattle.instructions.specs.declared.instruction.Instruction.TheVariants.{Load, LoadNot, And, AndNot, Or, OrNot, AndOpen, OrOpen, Close, Store, StoreNot, Set, Reset}
@@ -12,9 +13,7 @@ use Rattle.programs.specs.declared.fault.RuleFault.TheVariants.{TooDeep, TooMany
 use Rattle.programs.specs.Rules.{Place, start, closes, when, next, counted, step_to, step, step_if, led, judged_at, accepted, keeps}
 use Rattle.programs.proofs.Rules.{led_refused}
 use Rattle.scanning.specs.Working.{roomy, roomy_if, fitting}
-
-no_err : {A E : Type 0} {x : A} {e : E} → ◌≡◌ {A = Result A E} (Err e) (Ok x) → ⊥
-no_err p = let z : ◌≡◌ {A = ℕ} 0 1 = cc in omega arith
+use Rattle.scanning.proofs.Apart.{no_err}
 
 -- an instruction within the limits leaves as many brackets open as it says, at most 15
 counted_tells : (p : Place) (s : State) (b r : ℕ) (q : Place) → counted p s b r ≡ Ok q → (q.brackets ≡ b) × (b ≤ 15)
@@ -36,11 +35,11 @@ step_to_tells p i (Some s) q e = let h = counted_tells p s _ _ q e in ((s, refl)
 
 when_tells : (b : Bool) (s t : State) → when b s ≡ Some t → b ≡ true
 when_tells true s t e = refl
-when_tells false s t e = let z : ◌≡◌ {A = ℕ} 0 1 = cc in absurd (omega arith)
+when_tells false s t e = cc
 
 and_right : (a b : Bool) → (a && b) ≡ true → b ≡ true
 and_right true b e = e
-and_right false b e = grind (arith, nat_tests)
+and_right false b e = cc
 
 -- an allowed instruction finds room
 room : (p : Place) (i : Instruction) → ((s : State) × (next p.state p.brackets i ≡ Some s)) → opened p.brackets i ≤ 15 → roomy p.brackets i ≡ true
@@ -58,10 +57,6 @@ room p (StoreNot x) n h = refl
 room p (Set x) n h = refl
 room p (Reset x) n h = refl
 
-both : (a b : Bool) → a ≡ true → b ≡ true → (a && b) ≡ true
-both true b p q = q
-both false b p q = p
-
 led-fits : (ws : List ℕ) (p q : Place) → led (Ok p) ws ≡ Ok q → fitting p.brackets ws ≡ true
 led-fits [] p q e = refl
 led-fits (w ∷ ws) p q e = by (instruction_of w) (λ r f. led-fits ws r q f) e
@@ -70,7 +65,7 @@ led-fits (w ∷ ws) p q e = by (instruction_of w) (λ r f. led-fits ws r q f) e
     next_place i f (Err d) h e = absurd (no_err (sym (led_refused d ws) ∙ e))
     next_place i f (Ok r) h e =
         let t = step_to_tells p i (next p.state p.brackets i) r h in
-        both _ _ (room p i t.0 t.2) (subst (λ (n : ℕ). fitting n ws ≡ true) t.1 (f r e))
+        both_true (room p i t.0 t.2) (subst (λ (n : ℕ). fitting n ws ≡ true) t.1 (f r e))
 
     by : (o : Option Instruction) → ((r : Place) → led (Ok r) ws ≡ Ok q → fitting r.brackets ws ≡ true) → led (step_if p o) ws ≡ Ok q → (roomy_if p.brackets o && fitting (opened_if p.brackets o) ws) ≡ true
     by None f e = absurd (no_err (sym (led_refused _ ws) ∙ e))
@@ -81,4 +76,4 @@ keeps-fits ws k = by (led (Ok start) ws) refl k
   where
     by : (r : Result Place RuleFault) → led (Ok start) ws ≡ r → accepted (judged_at r) ≡ true → fitting 0 ws ≡ true
     by (Ok q) e h = led-fits ws start q e
-    by (Err d) e h = let z : ◌≡◌ {A = ℕ} 0 1 = cc in absurd (omega arith)
+    by (Err d) e h = cc

@@ -1,3 +1,4 @@
+pub mod Apart
 pub mod Running
 pub mod Texts
 pub mod Agreement

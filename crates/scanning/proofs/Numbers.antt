@@ -15,6 +15,7 @@ use Rattle.cards.specs.declared.fault.CardFault.{CardFault}
 use Rattle.cards.specs.Bits.{byte_bits, bits, number_on, field_of, field_at}
 use Rattle.cards.specs.Rungs.{and_then, row_at, point_of, contact_of, link_of, link_at, links_at, action_of, coil_of, coil_at, coils_at, sizes_at, rung_at}
 use Rattle.scanning.specs.Listings.{Within, Numbered}
+use Rattle.scanning.proofs.Apart.{no_err, no_none}
 
 -- each is a bit
 abbrev Bits : List ℕ → Type 0
@@ -51,12 +52,6 @@ number_below (suc w) (b ∷ bs) n m h l = let s = h.0 in number_below w bs (n * 
 field_below : (bytes : List ℕ) (at : ℕ) → field_of bytes at 8 < 256
 unfolding field_of
 field_below bytes at = number_below 8 (drop at (bits bytes)) 0 1 (bits-drop at (bits bytes) (all-bits bytes)) (omega arith)
-
-no_err : {A : Type 0} {e : CardFault} {x : A} → ◌≡◌ {A = Result A CardFault} (Err e) (Ok x) → ⊥
-no_err p = let z : ◌≡◌ {A = ℕ} 0 1 = cc in omega arith
-
-no_none : {A : Type 0} {x : A} → ◌≡◌ {A = Option A} None (Some x) → ⊥
-no_none p = let z : ◌≡◌ {A = ℕ} 0 1 = cc in omega arith
 
 chosen_field : (b : Bool) (x : ℕ) (d : CardFault) (y : ℕ) → x < 256 → cond b (Ok x) (Err d) ≡ Ok y → y < 256
 chosen_field true x d y h e = let q : x ≡ y = cc in omega arith

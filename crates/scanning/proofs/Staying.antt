@@ -1,5 +1,5 @@
 -- Points that no coil names stay.
-use Rattle.std.proofs.Common.{◌≡◌, ℕ, zero, suc, ◌≢◌, List, [], ◌∷◌, ◌++◌, set, Some, None, Option, refl, ap, ◌∙◌, inl, inr}
+use Rattle.std.proofs.Common.{◌≡◌, ℕ, zero, suc, ◌≢◌, List, [], ◌∷◌, set, Some, None, Option, refl, ap, ◌∙◌, inl}
 use Rattle.std.specs.List.{slice_get}
 use Rattle.signals.specs.Kind.{Kind}
 use Rattle.instructions.specs.declared.instruction.Operand.{Operand}
@@ -11,18 +11,10 @@ use Rattle.points.specs.Points.{index_of}
 use Rattle.wiring.specs.declared.rung.Action.{Action}
 use Rattle.wiring.specs.declared.rung.Action.TheVariants as action
 use Rattle.wiring.specs.Lists.{In}
+use Rattle.wiring.proofs.Members.{in_left, in_right}
 use Rattle.scanning.specs.declared.joining.Joining.{Joining}
 use Rattle.scanning.specs.Listings.{index_in, drives, drives_if, named}
 use Rattle.scanning.specs.Machine.{Machine, rejoined, coiled_onto, acts, acts_if, runs, fresh, scanned}
-
-in_left : {A : Type 0} (x : A) (us vs : List A) → In x us → In x (us ++ vs)
-in_left x [] vs p = absurd p
-in_left x (u ∷ us) vs (inl e) = inl e
-in_left x (u ∷ us) vs (inr p) = inr (in_left x us vs p)
-
-in_right : {A : Type 0} (x : A) (us vs : List A) → In x vs → In x (us ++ vs)
-in_right x [] vs p = p
-in_right x (u ∷ us) vs p = inr (in_right x us vs p)
 
 pub slice_get_set_other : {A : Type 0} (xs : List A) (j : ℕ) (x : A) (i : ℕ) → i ≢ j → slice_get (set xs j x) i ≡ slice_get xs i
 slice_get_set_other [] j x i n = refl

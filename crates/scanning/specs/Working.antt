@@ -1,22 +1,22 @@
--- For the engine's own contracts: the machine that working signals and brackets stand for, and whether brackets fit.
-use Rattle.std.specs.Prelude.{ℕ, zero, suc, Bool, true, ◌&&◌, List, [], ◌∷◌, Some, None, Option, nat_lt, slice_index_or}
-use Rattle.signals.specs.Kind.{Kind}
+-- For the engine's own contracts: the machine that it stands for with the points, and whether brackets fit.
+use Rattle.std.specs.Prelude.{ℕ, Bool, true, ◌&&◌, List, [], ◌∷◌, Some, None, Option, nat_lt, reverse}
+use Rattle.std.specs.List.{zip}
 use Rattle.instructions.specs.declared.instruction.Instruction.{Instruction}
 use Rattle.instructions.specs.declared.instruction.Instruction.TheVariants.{Load, LoadNot, And, AndNot, Or, OrNot, AndOpen, OrOpen, Close, Store, StoreNot, Set, Reset}
 use Rattle.instructions.specs.Depth.{opened_if}
 use Rattle.instructions.specs.Words.{instruction_of}
+use Rattle.scanning.specs.declared.brackets.Brackets.{Brackets}
+use Rattle.scanning.specs.declared.engine.Engine.{Engine}
 use Rattle.scanning.specs.declared.joining.Joining.{Joining}
-use Rattle.scanning.specs.declared.joining.Joining.TheVariants.{Series}
 use Rattle.scanning.specs.Machine.{Machine}
 
--- what so many open brackets have set aside, the innermost first
-abbrev pub pile : {S : Type 0} → Kind S → List S → List Joining → ℕ → List (S × Joining)
-pile k work joinings zero = []
-pile k work joinings (suc depth) = (slice_index_or work depth k.off, slice_index_or joinings depth Series) ∷ pile k work joinings depth
+-- what open brackets have set aside, each with how it will be joined, that of the innermost bracket first
+abbrev pub pile : {S : Type 0} → Brackets S → List (S × Joining)
+pile b = reverse (zip b.aside.now b.joinings.items)
 
--- the machine that a result, working signals, brackets and points stand for
-abbrev pub standing : {S : Type 0} → Kind S → S → List S → List Joining → ℕ → List S → Machine S
-standing k result work joinings depth points = record { result = result; aside = pile k work joinings depth; points = points }
+-- the machine that an engine and points stand for
+abbrev pub standing : {B S : Type 0} → Engine B S → List S → Machine S
+standing e points = record { result = e.result; aside = pile e.brackets; points = points }
 
 -- whether an instruction may come with so many brackets open: a sixteenth is not opened, and one that closes is open
 abbrev pub roomy : ℕ → Instruction → Bool

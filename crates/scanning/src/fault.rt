@@ -6,7 +6,7 @@ ghost use Rattle.scanning.specs.Refusals.{scan_number};
 #[derive(Clone, Copy)]
 pub enum ScanFault {
     /// Fewer than 15 working signals are lent.
-    FewSignals,
+    FewSignals = 2,
 }
 
 impl ScanFault {
@@ -14,8 +14,6 @@ impl ScanFault {
     pub fn number(self) -> u8
         ensures { result ≡ scan_number self }
     {
-        match self {
-            ScanFault::FewSignals => 2,
-        }
+        self as u8
     }
 }

@@ -1,13 +1,11 @@
 //! Scans: what words make of the points, and that for the listings of rungs the paths make the same.
 #![tactic(auto)]
 
-mod aside;
 mod brackets;
 mod engine;
 mod fault;
 mod joining;
 mod program;
-mod step;
 mod theorems;
 
 pub use fault::ScanFault;

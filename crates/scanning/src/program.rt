@@ -7,7 +7,7 @@ ghost use Rattle.scanning.specs.Listings.{Listings, named};
 ghost use Rattle.scanning.specs.Machine.{scanned};
 ghost use Rattle.scanning.specs.Refusals.{KeptUnnamed};
 
-use super::engine::scan_words;
+use super::engine::Engine;
 use super::fault::ScanFault;
 use banks::Bank;
 use programs::Program;
@@ -26,6 +26,6 @@ pub fn scan<B: Bank>(program: &Program, work: &mut [B::Kind], bank: &mut B) -> R
     if work.len() < 15 {
         return Err(ScanFault::FewSignals);
     }
-    scan_words(program.words(), work, bank);
+    Engine::over(work).run(program.words(), bank);
     Ok(())
 }
