@@ -44,7 +44,6 @@ fn drive<S: Signal>(action: Action, point: S, received: S) -> S
 /// Does what a coil does with the signal that it receives; `TRUE` is no point, and nothing is stored there.
 fn coil<B: Bank>(action: Action, operand: Operand, received: B::Kind, bank: &mut B)
     ensures after { B.points bank.new ≡ coiled_onto B.Kind.Signal.kind action operand received (B.points bank.old) }
-    ensures stays { B.seat bank.new ≡ B.seat bank.old }
     ensures untouched { B.rest bank.new ≡ B.rest bank.old }
 {
     if let Operand::At(point) = operand {
@@ -85,7 +84,6 @@ impl<'a, B: Bank> Engine<'a, B> {
     fn step(&mut self, instruction: Instruction, bank: &mut B)
         requires { roomy (length (pile self.old.brackets)) instruction ≡ true }
         ensures acts { standing self.new (B.points bank.new) ≡ acts B.Kind.Signal.kind instruction (standing self.old (B.points bank.old)) }
-        ensures stays { B.seat bank.new ≡ B.seat bank.old }
         ensures untouched { B.rest bank.new ≡ B.rest bank.old }
     {
         let result = self.result;
@@ -114,10 +112,9 @@ impl<'a, B: Bank> Engine<'a, B> {
     fn perform(&mut self, word: u16, bank: &mut B)
         requires { roomy_if (length (pile self.old.brackets)) (instruction_of word) ≡ true }
         ensures acts { standing self.new (B.points bank.new) ≡ acts_if B.Kind.Signal.kind (instruction_of word) (standing self.old (B.points bank.old)) }
-        ensures stays { B.seat bank.new ≡ B.seat bank.old }
         ensures untouched { B.rest bank.new ≡ B.rest bank.old }
     {
-        if let Some(instruction) = Instruction::from_word(word) {
+        if let Ok(instruction) = Instruction::try_from(word) {
             self.step(instruction, bank);
         }
     }
@@ -126,7 +123,6 @@ impl<'a, B: Bank> Engine<'a, B> {
     pub(crate) fn run(&mut self, words: &[u16], bank: &mut B)
         requires { fitting (length (pile self.old.brackets)) words.now ≡ true }
         ensures runs { standing self.new (B.points bank.new) ≡ runs B.Kind.Signal.kind words.now (standing self.old (B.points bank.old)) }
-        ensures stays { B.seat bank.new ≡ B.seat bank.old }
         ensures untouched { B.rest bank.new ≡ B.rest bank.old }
     {
         for word in words {

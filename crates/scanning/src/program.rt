@@ -20,7 +20,6 @@ pub fn scan<B: Bank>(program: &Program, work: &mut [B::Kind], bank: &mut B) -> R
     ensures after { OnOk result (B.points bank.new ≡ scanned B.Kind.Signal.kind (held program.now) (B.points bank.old)) }
     ensures paths { OnOk result ((cs : List Circuit) → Listings cs (held program.now) → ByPaths B.Kind.Signal.kind cs (B.points bank.old) (B.points bank.new)) }
     ensures same { OnOk result (KeptUnnamed (named (held program.now)) (B.points bank.old) (B.points bank.new)) }
-    ensures stays { B.seat bank.new ≡ B.seat bank.old }
     ensures untouched { B.rest bank.new ≡ B.rest bank.old }
 {
     if work.len() < 15 {

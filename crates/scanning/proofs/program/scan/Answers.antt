@@ -22,6 +22,5 @@ returns g c =
       after = e;
       paths = left_by_paths k g.met.B.Kind.Signal.laws words points _ e;
       same = left_unnamed k words points _ e;
-      stays = c.run.ensures.stays;
       untouched = c.run.ensures.untouched;
     }

@@ -10,6 +10,5 @@ invariant-loop-word g l =
     let points = g.B.Bank.points in
     record {
       going : Going k l.words l.word-index (standing l.self (points l.bank)) (runs k l.words (standing l.initial.self (points l.initial.bank)));
-      stays : g.B.Bank.seat l.bank ≡ g.B.Bank.seat l.initial.bank;
       untouched : g.B.Bank.rest l.bank ≡ g.B.Bank.rest l.initial.bank;
     }
