@@ -23,7 +23,7 @@ returns-then-bytes-end c =
     let h : (k : ℕ) → at ≤ k → k < end → get_or (bits bytes) k 0 ≡ 0 =
     first_from_Range _ _ _ None (λ i. get_or (bits bytes) i 0 ≡ 0 → ⊥) (λ i. get_or (bits bytes) i 0 ≡ 0) c.in_default.ensures.ran
     (λ x q k. grind (arith, tests)) (λ x q k. (search rules, grind (arith, tests))) in
-    ap Err c.at-then-bytes-end.ensures ∙ sym (zeros-follow bytes at end (omega arith) h c.if-bytes-end.true)
+    ap Err c.at-then-bytes-end.ensures ∙ sym (zeros-follow bytes at end (omega arith) h (omega arith))
 
 pub returns : goal.returns
 returns c =
@@ -33,4 +33,4 @@ returns c =
     let h : (k : ℕ) → at ≤ k → k < end → get_or (bits bytes) k 0 ≡ 0 =
     first_from_Range _ _ _ None (λ i. get_or (bits bytes) i 0 ≡ 0 → ⊥) (λ i. get_or (bits bytes) i 0 ≡ 0) c.in_default.ensures.ran
     (λ x q k. grind (arith, tests)) (λ x q k. (search rules, grind (arith, tests))) in
-    sym (zeros_end bytes at end (omega arith) h c.if-bytes-end.false)
+    sym (zeros_end bytes at end (omega arith) h (omega arith))
