@@ -30,12 +30,14 @@ pub fn translate_card(
     }
 }
 
+/// Adds the words of a card's rungs to an empty store, one rung after the other.
 fn translate_rungs(card: &[u8], staged: &mut Store) -> Result<(), LadderFault>
     requires { stored staged.old ≡ [] }
     ensures { Told card.now result staged.new }
 {
     let mut progress = read_head(card).map_err(|fault| InRung { fault, rung: 0 })?;
     loop {
+        // Noted before the rung is read: its faults are told with its number and its start.
         let rung = progress.rung();
         let bit = progress.bit();
         let read = read_rung(card, &mut progress).map_err(|fault| InRung { fault, rung })?;
