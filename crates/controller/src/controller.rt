@@ -86,7 +86,6 @@ impl<B: Bank> Controller<B> {
     /// Sets the input of a number.
     pub fn set_input(&mut self, number: usize, signal: B::Kind) -> Result<(), Refusal>
         ensures step { DryStep B.Kind.Signal.kind B.points self.old (SetInput number signal) (Change result) self.new }
-        ensures stays { B.seat self.new.bank ≡ B.seat self.old.bank }
         ensures untouched { B.rest self.new.bank ≡ B.rest self.old.bank }
     {
         self.whole_bank()?;
@@ -109,7 +108,6 @@ impl<B: Bank> Controller<B> {
     pub fn scan(&mut self, work: &mut [B::Kind]) -> Result<(), Refusal>
         ensures step { DryStep B.Kind.Signal.kind B.points self.old (Scan (length work.old)) (Change result) self.new }
         ensures work { OnErr result (work.new ≡ work.old) }
-        ensures stays { B.seat self.new.bank ≡ B.seat self.old.bank }
         ensures untouched { B.rest self.new.bank ≡ B.rest self.old.bank }
     {
         // The bank is tested before the working signals.

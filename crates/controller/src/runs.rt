@@ -27,7 +27,6 @@ pub fn operate<B: Bank>(
     answers: &mut [Answer<B::Kind>],
 ) -> Outcome<B>
     ensures run { Operated B.Kind.Signal.kind B.points (B.points bank) calls.now (given work.old buffer.old answers.old) result.controller result.performed (given work.new buffer.new answers.new) }
-    ensures stays { B.seat result.controller.bank ≡ B.seat bank }
     ensures untouched { B.rest result.controller.bank ≡ B.rest bank }
 {
     let mut controller = Controller::make(bank);
@@ -55,7 +54,6 @@ impl<B: Bank> Controller<B> {
             (given work.old buffer.old answers.old)
             (given work.new buffer.new answers.new)
             × (self.new ≡ self.old)) }
-        ensures stays { B.seat self.new.bank ≡ B.seat self.old.bank }
         ensures untouched { B.rest self.new.bank ≡ B.rest self.old.bank }
     {
         if answers.len() < calls.len() {
@@ -76,7 +74,6 @@ impl<B: Bank> Controller<B> {
     ) -> Answer<B::Kind>
         ensures step { Step B.Kind.Signal.kind B.points self.old buffer.old (lending (length work.old) (length buffer.old) call.now) result self.new buffer.new }
         ensures work { NoScan (lending (length work.old) (length buffer.old) call.now, result) → work.new ≡ work.old }
-        ensures stays { B.seat self.new.bank ≡ B.seat self.old.bank }
         ensures untouched { B.rest self.new.bank ≡ B.rest self.old.bank }
     {
         let signals = work.len();

@@ -8,6 +8,5 @@ returns g c =
     let m = c.make-controller.ensures in
     record {
       run = operated _ _ _ _ _ _ _ _ c.perform-performed.result (m.stands c.args.buffer.now) h.run;
-      stays = h.stays ∙ ap g.B.Bank.seat m.same;
       untouched = h.untouched ∙ ap g.B.Bank.rest m.same;
     }

@@ -3,7 +3,7 @@ use Rattle.controller.proofs.Histories.{going_start, going_more, going_end}
 use Rattle.controller.proofs.controller.Controller.perform.Goals as goal
 
 pub loop-i-init : goal.loop-i-init
-loop-i-init g c = record { going = going_start _ _ _ _ _; stays = refl; untouched = refl }
+loop-i-init g c = record { going = going_start _ _ _ _ _; untouched = refl }
 
 pub loop-i-preserved : goal.loop-i-preserved
 loop-i-preserved g c =
@@ -13,7 +13,6 @@ loop-i-preserved g c =
       going =
           going_more _ _ _ _ c.args.calls.now c.loop-i.i _ _ c.loop-i.answers _ _ _ _ c.index-calls-i.result _
           c.loop-i-test.true (omega arith) c.index-calls-i.is c.loop-i.auto.work c.loop-i.auto.buffer i.going h.step h.work;
-      stays = h.stays ∙ i.stays;
       untouched = h.untouched ∙ i.untouched;
     }
 

@@ -9,6 +9,5 @@ invariant-loop-i g l =
           Going g.B.Kind.Signal.kind g.B.Bank.points l.initial.self
           (record { work = l.initial.work; bytes = l.initial.buffer; answers = l.initial.answers }) l.calls l.i l.self
           (record { work = l.work; bytes = l.buffer; answers = l.answers });
-      stays : g.B.Bank.seat l.self.bank ≡ g.B.Bank.seat l.initial.self.bank;
       untouched : g.B.Bank.rest l.self.bank ≡ g.B.Bank.rest l.initial.self.bank;
     }
