@@ -1,5 +1,5 @@
 -- The links in their slots.
-use Rattle.std.proofs.Common.{◌≢◌, ◌≡◌, ℕ, zero, suc, ◌+◌, ◌-◌, ◌<◌, ◌≤◌, List, [], ◌∷◌, ◌++◌, length, get_or, take, set, replicate, Some, None, Option, sym, refl, ap, ◌∙◌, subst, ap₂, add-one, arith, length-take}
+use Rattle.std.proofs.Common.{◌≢◌, ◌≡◌, ℕ, zero, suc, ◌+◌, ◌-◌, ◌<◌, ◌≤◌, List, [], ◌∷◌, ◌++◌, length, get_or, take, set, replicate, Some, None, Option, sym, refl, ap, ◌∙◌, subst, ap₂, add-one, arith}
 use native.Mathlib.Decide.{ℕ_discrete}
 use Rattle.std.proofs.lemmas.List.{get_or-set_same, get_or-set_other, length-set}
 use Rattle.std.proofs.lemmas.Option.{none-some}
@@ -100,9 +100,6 @@ placed-all c links l ns e P = P.edges_are c e ∙ ap (λ k. first-edges c (lengt
 -- the slice of a drawn rung's links that is placed
 pub slice_is : (r : Rung) → (circuit r).links ≡ take (r.link_count - 0) r.links
 slice_is r = let z : r.link_count ≡ r.link_count - 0 = omega arith in ap (λ k. take k r.links) z
-
-pub slice_few : (r : Rung) → length (take (r.link_count - 0) r.links) ≤ 64
-slice_few r = let h = length-take (r.link_count - 0) r.links in let m = r.most_links in omega arith
 
 pub slice_loopless : (r : Rung) → Loopless (take (r.link_count - 0) r.links)
 slice_loopless r i h = (linked-at r.joints (take (r.link_count - 0) r.links) (sym (ap (linked r.joints) (slice_is r)) ∙ r.linked) i h).apart
