@@ -8,7 +8,7 @@ use Rattle.std.proofs.lemmas.Bool.{cases_eq, cases_lt, lt-ltb, le-ltb, le-leb, l
 use Rattle.signals.specs.Kind.{Kind}
 use Rattle.banks.specs.Patches.{Within, Apart, Straight, inputs, swapped, rewired, place, patched, repatched}
 use Rattle.banks.specs.Short.{length-patched}
-use Rattle.banks.proofs.Swapping.{origin, origin_below, origin_far, length-swapped, get_or-swapped, swapped_twice}
+use Rattle.banks.proofs.Swapping.{origin, origin_below, origin_far, origin_twice, length-swapped, get_or-swapped, swapped_twice}
 
 -- what a table's type keeps
 pub record Permutation (to : List ℕ) : Type 0 where
@@ -111,6 +111,16 @@ module _ (to : List ℕ) (whole : length to ≡ 256) (a b : ℕ) (ha : a < 256) 
 
   pub swapped-rewired : swapped 0 to a b ≡ rewired to a b
   swapped-rewired = sym (cond-true (inputs a b) (swapped 0 to a b) to both)
+
+  pub permutation_swapped : Permutation to → Permutation (swapped 0 to a b)
+  permutation_swapped p =
+      record {
+        whole = length-swapped a b 0 to ta tb ∙ whole;
+        within = λ i h. subst (λ (n : ℕ). n < 256) (sym (get_or-swapped a b 0 to ta tb i)) (p.within (origin a b i) (origin_below a b 256 i ha hb h));
+        apart = λ i j h.
+            let e : origin a b i ≡ origin a b j = p.apart (origin a b i) (origin a b j) (origin_below a b 256 i ha hb h.0, origin_below a b 256 j ha hb h.1, sym (get_or-swapped a b 0 to ta tb i) ∙ h.2 ∙ get_or-swapped a b 0 to ta tb j) in
+            sym (origin_twice a b i) ∙ ap (origin a b) e ∙ origin_twice a b j;
+      }
 
   place-swapped : (n j : ℕ) → 256 ≤ n → place (swapped 0 to a b) n j ≡ place to n (origin a b j)
   place-swapped n j h =
