@@ -58,6 +58,7 @@ impl Bits<'_> {
     }
 
     /// Fills an empty row with the `count` parts that come next, in a rung of so many joints.
+    // The row is lent: that a row of its own fits in memory is nothing that a generic function knows.
     fn fill<T: Part, const N: usize>(
         &mut self,
         row: &mut ArrayVec<T, N>,
@@ -71,6 +72,7 @@ impl Bits<'_> {
         ensures many { OnOk result (array_vec_len row.new ≡ count) }
         ensures ahead { Ahead self.old (λ _. T.width * count) result self.new }
     {
+        // Kept as a loop: a part that is refused ends it, and `collect` tells a proof nothing of when.
         for _ in 0..count {
             row.push(T::read(self, joints)?);
         }
