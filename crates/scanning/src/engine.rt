@@ -54,6 +54,7 @@ fn coil<B: Bank>(action: Action, operand: Operand, received: B::Kind, bank: &mut
 }
 
 /// What a scan carries from word to word: the result, and the brackets that are open.
+// The bank is passed and not held: of a bank that is lent to a struct with a signal in it, the lender learns nothing.
 #[derive(Drop)]
 pub(crate) struct Engine<'a, B: Bank> {
     result: B::Kind,
