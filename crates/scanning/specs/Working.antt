@@ -16,7 +16,7 @@ pile b = reverse (zip b.aside.now b.joinings.items)
 
 -- the machine that an engine and points stand for
 abbrev pub standing : {B S : Type 0} → Engine B S → List S → Machine S
-standing e points = record { result = e.result; aside = pile e.brackets; points = points }
+standing e points = record { result = e.result; aside = pile e.brackets.now; points = points }
 
 -- whether an instruction may come with so many brackets open: a sixteenth is not opened, and one that closes is open
 abbrev pub roomy : ℕ → Instruction → Bool

@@ -1,5 +1,5 @@
 //! What words do, for every kind of signal and every bank.
-ghost use Rattle.std.specs.Prelude.{◌≡◌, ◌≤◌, true, List, length};
+ghost use Rattle.std.specs.Prelude.{◌≡◌, true, List, [], length};
 ghost use Rattle.instructions.specs.Words.{instruction_of};
 ghost use Rattle.scanning.specs.Machine.{signal_at, signal_of, driven, coiled_onto, rejoined, acts, acts_if, runs, fresh};
 ghost use Rattle.scanning.specs.Working.{pile, standing, roomy, roomy_if, fitting};
@@ -53,27 +53,29 @@ fn coil<B: Bank>(action: Action, operand: Operand, received: B::Kind, bank: &mut
 }
 
 /// What a scan carries from word to word: the result, and the brackets that are open.
+// The bank is passed and not held: of a bank that is lent to a struct with a signal in it, the lender learns nothing.
+// The brackets are lent, since with their array beside it the result would be kept in memory, and a scan be slower.
 #[derive(Drop)]
-pub(crate) struct Engine<'a, B: Bank> {
+pub(crate) struct Engine<'a, 'w, B: Bank> {
     result: B::Kind,
-    brackets: Brackets<'a, B::Kind>,
+    brackets: &'a mut Brackets<'w, B::Kind>,
 }
 
-impl<'a, B: Bank> Engine<'a, B> {
-    /// The start of a scan, over working signals of the caller's.
-    pub(crate) fn over(work: &'a mut [B::Kind]) -> Engine<'a, B>
-        requires { 15 ≤ length work.old }
+impl<'a, 'w, B: Bank> Engine<'a, 'w, B> {
+    /// The start of a scan, with no open brackets.
+    pub(crate) fn over(brackets: &'a mut Brackets<'w, B::Kind>) -> Engine<'a, 'w, B>
+        requires { pile brackets.old ≡ [] }
         ensures { (points : List B.Kind) → standing result points ≡ fresh B.Kind.Signal.kind points }
     {
         Engine {
             result: B::Kind::off(),
-            brackets: Brackets::over(work),
+            brackets,
         }
     }
 
     /// Closes a bracket: the result set aside last, standing first, is joined with the result.
     fn close(&mut self)
-        ensures { (points : List B.Kind) → standing self.new points ≡ rejoined B.Kind.Signal.kind (pile self.old.brackets) (standing self.old points) }
+        ensures { (points : List B.Kind) → standing self.new points ≡ rejoined B.Kind.Signal.kind (pile self.old.brackets.now) (standing self.old points) }
     {
         if let Some((first, joining)) = self.brackets.take_back() {
             self.result = joining.join(first, self.result);
@@ -82,7 +84,7 @@ impl<'a, B: Bank> Engine<'a, B> {
 
     /// Performs one instruction.
     fn step(&mut self, instruction: Instruction, bank: &mut B)
-        requires { roomy (length (pile self.old.brackets)) instruction ≡ true }
+        requires { roomy (length (pile self.old.brackets.now)) instruction ≡ true }
         ensures acts { standing self.new (B.points bank.new) ≡ acts B.Kind.Signal.kind instruction (standing self.old (B.points bank.old)) }
         ensures untouched { B.rest bank.new ≡ B.rest bank.old }
     {
@@ -110,7 +112,7 @@ impl<'a, B: Bank> Engine<'a, B> {
 
     /// Performs one word; a word that stands for no instruction does nothing.
     fn perform(&mut self, word: u16, bank: &mut B)
-        requires { roomy_if (length (pile self.old.brackets)) (instruction_of word) ≡ true }
+        requires { roomy_if (length (pile self.old.brackets.now)) (instruction_of word) ≡ true }
         ensures acts { standing self.new (B.points bank.new) ≡ acts_if B.Kind.Signal.kind (instruction_of word) (standing self.old (B.points bank.old)) }
         ensures untouched { B.rest bank.new ≡ B.rest bank.old }
     {
@@ -121,7 +123,7 @@ impl<'a, B: Bank> Engine<'a, B> {
 
     /// Performs words, one after the other. That their brackets fit is what the type of a program supplies.
     pub(crate) fn run(&mut self, words: &[u16], bank: &mut B)
-        requires { fitting (length (pile self.old.brackets)) words.now ≡ true }
+        requires { fitting (length (pile self.old.brackets.now)) words.now ≡ true }
         ensures runs { standing self.new (B.points bank.new) ≡ runs B.Kind.Signal.kind words.now (standing self.old (B.points bank.old)) }
         ensures untouched { B.rest bank.new ≡ B.rest bank.old }
     {

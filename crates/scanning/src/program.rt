@@ -7,6 +7,7 @@ ghost use Rattle.scanning.specs.Listings.{Listings, named};
 ghost use Rattle.scanning.specs.Machine.{scanned};
 ghost use Rattle.scanning.specs.Refusals.{KeptUnnamed};
 
+use super::brackets::Brackets;
 use super::engine::Engine;
 use super::fault::ScanFault;
 use banks::Bank;
@@ -25,6 +26,7 @@ pub fn scan<B: Bank>(program: &Program, work: &mut [B::Kind], bank: &mut B) -> R
     if work.len() < 15 {
         return Err(ScanFault::FewSignals);
     }
-    Engine::over(work).run(program.words(), bank);
+    let mut brackets = Brackets::over(work);
+    Engine::over(&mut brackets).run(program.words(), bank);
     Ok(())
 }
