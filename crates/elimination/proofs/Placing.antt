@@ -1,12 +1,11 @@
 -- The links in their slots.
-use Rattle.std.proofs.Common.{◌≢◌, ◌≡◌, ℕ, zero, suc, ◌+◌, ◌-◌, ◌<◌, ◌≤◌, List, [], ◌∷◌, ◌++◌, length, get_or, take, set, replicate, Some, None, Option, sym, refl, ap, ◌∙◌, subst, ap₂, add-one, arith}
+use Rattle.std.proofs.Common.{◌≢◌, ◌≡◌, ℕ, zero, suc, ◌+◌, ◌<◌, ◌≤◌, List, [], ◌∷◌, ◌++◌, length, get_or, set, replicate, Some, None, Option, sym, refl, ap, ◌∙◌, subst, ap₂, add-one, arith}
 use native.Mathlib.Decide.{ℕ_discrete}
 use Rattle.std.proofs.lemmas.List.{get_or-set_same, get_or-set_other, length-set}
 use Rattle.std.proofs.lemmas.Option.{none-some}
 use Rattle.wiring.specs.declared.rung.Link.{Link}
-use Rattle.wiring.specs.Circuit.{Circuit, circuit, bare}
+use Rattle.wiring.specs.Circuit.{Circuit, bare}
 use Rattle.wiring.specs.declared.rung.Rung.{Rung}
-use Rattle.wiring.specs.Drawn.{linked}
 use Rattle.wiring.specs.Elimination.{first-edges}
 use Rattle.wiring.specs.Text.{link_text, text}
 use Rattle.wiring.specs.Wiring.{link}
