@@ -1,23 +1,9 @@
 -- Where a byte stands in a text.
-use Rattle.std.proofs.Common.{◌≡◌, ℕ, suc, ◌+◌, ◌<◌, ◌≤◌, Bool, true, false, cond, eqb, List, [], ◌∷◌, ◌++◌, length, get_or, take, drop, refl, ap, ◌∙◌, arith}
-use Rattle.std.proofs.lemmas.List.{at_drop_more, at_drop_all}
+use Rattle.std.proofs.Common.{◌≡◌, ℕ, suc, ◌+◌, ◌<◌, ◌≤◌, Bool, true, false, cond, eqb, ltb, List, [], ◌∷◌, ◌++◌, length, take, drop, Some, None, Option, MatchOption, sym, refl, ap, ◌∙◌, subst, arith}
+use Rattle.std.specs.List.{position, position_or_len}
+use Rattle.std.proofs.lemmas.List.Recursion.{is_position_or_len}
 use Rattle.std.proofs.lemmas.Bool.Decides.{nat_tests}
 use Rattle.listings.specs.LineReading.{byte_in}
-
-pub byte_here : (byte : ℕ) (text : List ℕ) (i : ℕ) → i < length text → get_or text i 0 ≡ byte → byte_in byte (drop i text) ≡ 0
-byte_here byte text i l e =
-    let m : byte_in byte (drop i text) ≡ cond (eqb (get_or text i 0) byte) 0 (1 + byte_in byte (drop (i + 1) text)) = at_drop_more (byte_in byte) text i 0 l in
-    let t : eqb (get_or text i 0) byte ≡ true = grind (arith, nat_tests) in
-    m ∙ ap (λ b. cond b 0 (1 + byte_in byte (drop (i + 1) text))) t
-
-pub byte_on : (byte : ℕ) (text : List ℕ) (i : ℕ) → i < length text → (get_or text i 0 ≡ byte → ⊥) → byte_in byte (drop i text) ≡ 1 + byte_in byte (drop (i + 1) text)
-byte_on byte text i l e =
-    let m : byte_in byte (drop i text) ≡ cond (eqb (get_or text i 0) byte) 0 (1 + byte_in byte (drop (i + 1) text)) = at_drop_more (byte_in byte) text i 0 l in
-    let t : eqb (get_or text i 0) byte ≡ false = grind (arith, nat_tests) in
-    m ∙ ap (λ b. cond b 0 (1 + byte_in byte (drop (i + 1) text))) t
-
-pub byte_none : (byte : ℕ) (text : List ℕ) (i : ℕ) → length text ≤ i → byte_in byte (drop i text) ≡ 0
-byte_none byte text i h = at_drop_all (byte_in byte) text i h
 
 pub byte_within : (byte : ℕ) (text : List ℕ) → byte_in byte text ≤ length text
 byte_within byte [] = omega arith
@@ -26,6 +12,26 @@ byte_within byte (b ∷ bs) = by (eqb b byte) (byte_within byte bs)
     by : (t : Bool) → byte_in byte bs ≤ length bs → cond t 0 (1 + byte_in byte bs) ≤ suc (length bs)
     by true h = omega arith
     by false h = omega arith
+
+-- a byte is found where it stands first, or it is not there
+pub byte_found : (byte : ℕ) (text : List ℕ) (found : Option ℕ) → found ≡ position (λ b. eqb b byte) text → MatchOption found (byte_in byte text ≡ length text) (λ end. (end ≡ byte_in byte text) × (end < length text))
+byte_found byte text found e =
+    subst (λ r. MatchOption r (byte_in byte text ≡ length text) (λ end. (end ≡ byte_in byte text) × (end < length text))) (sym (e ∙ ap (λ n. cond (ltb n (length text)) (Some n) None) (sym same)))
+    (by (ltb (byte_in byte text) (length text)) (below (byte_in byte text) (length text)) (above (byte_in byte text) (length text)))
+  where
+    same : byte_in byte text ≡ position_or_len (λ b. eqb b byte) text
+    same = is_position_or_len (byte_in byte) (λ b. eqb b byte) refl (λ x xs. refl) text
+
+    below : (m n : ℕ) → ltb m n ≡ true → m < n
+    below m n e = grind (arith, nat_tests)
+
+    above : (m n : ℕ) → ltb m n ≡ false → n ≤ m
+    above m n e = grind (arith, nat_tests)
+
+    by : (b : Bool) → (b ≡ true → byte_in byte text < length text) → (b ≡ false → length text ≤ byte_in byte text)
+        → MatchOption (cond b (Some (byte_in byte text)) None) (byte_in byte text ≡ length text) (λ end. (end ≡ byte_in byte text) × (end < length text))
+    by true f g = (refl, f refl)
+    by false f g = let h = g refl in omega (arith, byte_within byte text)
 
 -- a text falls into what stands before a byte, the byte, and what follows
 pub byte_splits : (byte : ℕ) (text : List ℕ) → byte_in byte text < length text → text ≡ take (byte_in byte text) text ++ byte ∷ drop (byte_in byte text + 1) text

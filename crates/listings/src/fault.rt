@@ -1,6 +1,7 @@
 //! Why a listing is refused, and where.
 ghost use Rattle.std.specs.Prelude.{◌≡◌};
 ghost use Rattle.instructions.specs.Reports.{refusal_line, Written};
+ghost use Rattle.listings.specs.declared.fault.Cause.TheVariants.{Broken};
 ghost use Rattle.listings.specs.Faults.{cause_number, fault_number, fault_byte, fault_line};
 
 use instructions::{ShortBuffer, write_refusal};
@@ -24,6 +25,15 @@ impl Cause {
             Cause::NotALine => 12,
             Cause::Broken(fault) => fault.number(),
         }
+    }
+}
+
+/// The rule that a line breaks is why it is refused.
+impl From<RuleFault> for Cause {
+    ghost from_gives = { λ rule cause. cause ≡ Broken rule };
+
+    fn from(rule: RuleFault) -> Cause {
+        Cause::Broken(rule)
     }
 }
 

@@ -1,7 +1,6 @@
 //! One line of a listing, without its end.
-ghost use Rattle.std.specs.Prelude.{◌≡◌, ◌≤◌, length};
-ghost use Rattle.std.specs.Str.{bytes_eq};
-ghost use Rattle.listings.specs.LineReading.{byte_in, named, alone, joined_by, line_read};
+ghost use Rattle.std.specs.Prelude.{◌≡◌, ◌<◌, length, MatchOption};
+ghost use Rattle.listings.specs.LineReading.{byte_in, named, bare, line_read};
 
 use super::operand::read_operand;
 use instructions::{Instruction, Operand};
@@ -10,97 +9,50 @@ use instructions::{Instruction, Operand};
 pub(crate) fn read_line(text: &[u8]) -> Option<Instruction>
     ensures { result ≡ line_read text.now }
 {
-    let end = find_byte(text, b' ');
-    if end == text.len() {
-        return without_operand(instruction_named(text, Operand::True));
-    }
-    match read_operand(&text[end + 1..]) {
-        Some(operand) => with_operand(instruction_named(&text[0..end], operand)),
-        None => None,
-    }
+    let Some(end) = find_byte(text, b' ') else {
+        return instruction_named(text, Operand::True).filter(|instruction| is_bracket(
+            *instruction,
+        ));
+    };
+    let operand = read_operand(&text[end + 1..])?;
+    instruction_named(&text[..end], operand).filter(|instruction| !is_bracket(*instruction))
 }
 
-/// Where a byte stands first, or the length.
-pub(crate) fn find_byte(text: &[u8], byte: u8) -> usize
-    ensures value { result ≡ byte_in byte text.now }
-    ensures within { result ≤ length text.now }
+/// Where a byte stands first, if it is there.
+pub(crate) fn find_byte(text: &[u8], byte: u8) -> Option<usize>
+    ensures { MatchOption result (byte_in byte text.now ≡ length text.now) (λ end. (end ≡ byte_in byte text.now) × (end < length text.now)) }
 {
-    for (i, b) in text.iter().enumerate() {
-        if *b == byte {
-            return i;
-        }
-    }
-    text.len()
+    text.iter().position(|b| *b == byte)
 }
 
-/// An instruction that stands without an operand.
-fn without_operand(instruction: Option<Instruction>) -> Option<Instruction>
-    ensures { result ≡ alone instruction }
+/// A bracket stands without an operand, and nothing else does.
+fn is_bracket(instruction: Instruction) -> bool
+    ensures { result ≡ bare instruction }
 {
-    match instruction {
-        Some(Instruction::AndOpen | Instruction::OrOpen | Instruction::Close) => instruction,
-        _ => None,
-    }
-}
-
-/// An instruction that stands with an operand.
-fn with_operand(instruction: Option<Instruction>) -> Option<Instruction>
-    ensures { result ≡ joined_by instruction }
-{
-    match instruction {
-        Some(Instruction::AndOpen | Instruction::OrOpen | Instruction::Close) => None,
-        _ => instruction,
-    }
-}
-
-fn same_text(a: &[u8], b: &[u8]) -> bool
-    ensures { result ≡ bytes_eq a.now b.now }
-{
-    a == b
+    matches!(
+        instruction,
+        Instruction::AndOpen | Instruction::OrOpen | Instruction::Close
+    )
 }
 
 /// The instruction with this mnemonic, onto the operand.
 fn instruction_named(name: &[u8], operand: Operand) -> Option<Instruction>
     ensures { result ≡ named name.now operand }
 {
-    if same_text(name, b"LD") {
-        return Some(Instruction::Load(operand));
+    match name {
+        b"LD" => Some(Instruction::Load(operand)),
+        b"LDN" => Some(Instruction::LoadNot(operand)),
+        b"AND" => Some(Instruction::And(operand)),
+        b"ANDN" => Some(Instruction::AndNot(operand)),
+        b"OR" => Some(Instruction::Or(operand)),
+        b"ORN" => Some(Instruction::OrNot(operand)),
+        b"AND(" => Some(Instruction::AndOpen),
+        b"OR(" => Some(Instruction::OrOpen),
+        b")" => Some(Instruction::Close),
+        b"ST" => Some(Instruction::Store(operand)),
+        b"STN" => Some(Instruction::StoreNot(operand)),
+        b"S" => Some(Instruction::Set(operand)),
+        b"R" => Some(Instruction::Reset(operand)),
+        _ => None,
     }
-    if same_text(name, b"LDN") {
-        return Some(Instruction::LoadNot(operand));
-    }
-    if same_text(name, b"AND") {
-        return Some(Instruction::And(operand));
-    }
-    if same_text(name, b"ANDN") {
-        return Some(Instruction::AndNot(operand));
-    }
-    if same_text(name, b"OR") {
-        return Some(Instruction::Or(operand));
-    }
-    if same_text(name, b"ORN") {
-        return Some(Instruction::OrNot(operand));
-    }
-    if same_text(name, b"AND(") {
-        return Some(Instruction::AndOpen);
-    }
-    if same_text(name, b"OR(") {
-        return Some(Instruction::OrOpen);
-    }
-    if same_text(name, b")") {
-        return Some(Instruction::Close);
-    }
-    if same_text(name, b"ST") {
-        return Some(Instruction::Store(operand));
-    }
-    if same_text(name, b"STN") {
-        return Some(Instruction::StoreNot(operand));
-    }
-    if same_text(name, b"S") {
-        return Some(Instruction::Set(operand));
-    }
-    if same_text(name, b"R") {
-        return Some(Instruction::Reset(operand));
-    }
-    None
 }

@@ -1,33 +1,47 @@
 //! Reading a listing.
-ghost use Rattle.std.specs.Prelude.{◌≡◌, ◌<◌, length};
+ghost use Rattle.std.specs.Prelude.{◌≡◌, ◌<◌, ◌≤◌, length};
 ghost use Rattle.listings.specs.Reading.{verdict};
-ghost use Rattle.listings.specs.Progress.{LineAdded, NextRead};
+ghost use Rattle.listings.specs.Progress.{refused_there, LineAdded, NextRead};
 ghost use Rattle.listings.specs.Answers.{words_in, Exact, Replaced};
 
 use super::fault::{Cause, ListingFault};
 use super::line::{find_byte, read_line};
 use programs::{Draft, Program};
 
+/// Where the reading of a listing stands: the byte and the line that come next, counted from 0.
+#[derive(Clone, Copy)]
+struct Position {
+    byte: usize,
+    line: usize,
+}
+
+impl Position {
+    /// The refusal of what comes next.
+    fn refused(self, cause: Cause) -> ListingFault
+        ensures { result ≡ refused_there self cause }
+    {
+        ListingFault {
+            cause,
+            byte: self.byte,
+            line: self.line,
+        }
+    }
+}
+
 /// The program that a listing says, if each line is one, the rules allow it where it stands, and they may end there.
+#[tactic(auto, using(crate::proofs::Laws::exact))]
 pub fn read(bytes: &[u8]) -> Result<Program, ListingFault>
     ensures value { words_in result ≡ verdict bytes.now }
     ensures exact { Exact bytes.now result }
 {
     let mut draft = Draft::new();
-    let mut byte = 0;
-    let mut line = 0;
-    while byte < bytes.len() {
-        byte = read_next(&mut draft, bytes, byte, line)?;
-        line += 1;
+    let mut at = Position { byte: 0, line: 0 };
+    while at.byte < bytes.len() {
+        at = read_next(&mut draft, bytes, at)?;
     }
-    match draft.finish() {
-        Ok(program) => Ok(program),
-        Err(fault) => Err(ListingFault {
-            cause: Cause::Broken(fault),
-            byte,
-            line,
-        }),
-    }
+    draft
+        .finish()
+        .map_err(|fault| at.refused(Cause::Broken(fault)))
 }
 
 /// Reads a listing in place of a program, and answers rungs, words, greatest depth and the first rung with that depth.
@@ -38,37 +52,27 @@ pub fn read_into(
 ) -> Result<(usize, usize, usize, usize), ListingFault>
     ensures { Replaced bytes.now program.old result program.new }
 {
-    match read(bytes) {
-        Ok(staged) => {
-            *program = staged;
-            Ok(program.counts())
-        }
-        Err(fault) => Err(fault),
-    }
+    let staged = read(bytes)?;
+    *program = staged;
+    Ok(program.counts())
 }
 
-/// Reads the line that starts at a byte, and answers where the next one starts.
-fn read_next(
-    draft: &mut Draft,
-    bytes: &[u8],
-    byte: usize,
-    line: usize,
-) -> Result<usize, ListingFault>
-    requires { byte < length bytes.now }
-    ensures { NextRead bytes.now draft.old byte line result draft.new }
+/// Reads the line that comes next, and answers where the reading stands behind it.
+fn read_next(draft: &mut Draft, bytes: &[u8], at: Position) -> Result<Position, ListingFault>
+    requires more { at.byte < length bytes.now }
+    requires lines { at.line ≤ at.byte }
+    ensures { NextRead bytes.now draft.old at result draft.new }
 {
-    let rest = &bytes[byte..];
-    let end = find_byte(rest, b'\n');
-    if end == rest.len() {
-        return Err(ListingFault {
-            cause: Cause::NotALine,
-            byte,
-            line,
-        });
-    }
-    match add_line(draft, &rest[0..end]) {
-        Ok(()) => Ok(byte + end + 1),
-        Err(cause) => Err(ListingFault { cause, byte, line }),
+    let rest = &bytes[at.byte..];
+    let Some(end) = find_byte(rest, b'\n') else {
+        return Err(at.refused(Cause::NotALine));
+    };
+    match add_line(draft, &rest[..end]) {
+        Ok(()) => Ok(Position {
+            byte: at.byte + end + 1,
+            line: at.line + 1,
+        }),
+        Err(cause) => Err(at.refused(cause)),
     }
 }
 
@@ -76,11 +80,7 @@ fn read_next(
 fn add_line(draft: &mut Draft, text: &[u8]) -> Result<(), Cause>
     ensures { LineAdded draft.old text.now result draft.new }
 {
-    match read_line(text) {
-        None => Err(Cause::NotALine),
-        Some(instruction) => match draft.add(instruction.word()) {
-            Ok(()) => Ok(()),
-            Err(fault) => Err(Cause::Broken(fault)),
-        },
-    }
+    let instruction = read_line(text).ok_or(Cause::NotALine)?;
+    draft.add(u16::from(instruction))?;
+    Ok(())
 }

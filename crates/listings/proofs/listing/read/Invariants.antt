@@ -3,8 +3,8 @@ use Rattle.listings.specs.Reading.{read_from, verdict}
 use Rattle.listings.specs.Progress.{reached}
 use Rattle.listings.proofs.listing.read.Given as goal
 
-abbrev pub invariant-loop-byte : goal.invariant-loop-byte
-invariant-loop-byte l = (read_from (Ok (reached l.draft l.byte l.line)) (drop l.byte l.bytes) ≡ verdict l.bytes) × (l.byte ≤ length l.bytes) × (l.line ≤ l.byte)
+abbrev pub invariant-loop-at : goal.invariant-loop-at
+invariant-loop-at l = (read_from (Ok (reached l.draft l.at.byte l.at.line)) (drop l.at.byte l.bytes) ≡ verdict l.bytes) × (l.at.byte ≤ length l.bytes) × (l.at.line ≤ l.at.byte)
 
-abbrev pub decreases-loop-byte : goal.decreases-loop-byte
-decreases-loop-byte l = length l.bytes - l.byte
+abbrev pub decreases-loop-at : goal.decreases-loop-at
+decreases-loop-at l = length l.bytes - l.at.byte
