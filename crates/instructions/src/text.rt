@@ -1,4 +1,5 @@
 //! Texts that are made in a room of their own, before they are written anywhere.
+// Not by `Display`: what formats may fail at any writer, and then no contract says that the text came whole.
 ghost use Rattle.std.specs.Prelude.{◌≡◌, ◌+◌, ◌≤◌, ◌++◌, length, decimal};
 ghost use Rattle.arrayvec.specs.ArrayVec.{array_vec_len};
 

@@ -6,7 +6,7 @@ use Rattle.instructions.specs.declared.instruction.Instruction.{Instruction}
 use Rattle.instructions.specs.declared.instruction.Instruction.TheVariants.{Load, LoadNot, And, AndNot, Or, OrNot, AndOpen, OrOpen, Close, Store, StoreNot, Set, Reset}
 use Rattle.instructions.specs.Words.{instruction_of}
 use Rattle.instructions.specs.Depth.{opened_if, deepest, depth}
-use Rattle.instructions.proofs.Deepest.{deepest-from}
+use Rattle.instructions.proofs.Deepest.{deepest-from, opened_bound}
 use Rattle.programs.specs.declared.survey.Survey.{Survey}
 use Rattle.programs.specs.Counts.{starts_if, open_after, Cut, cut_at, cut, rungs_of, greatest, place_in, depths, counts}
 use Rattle.programs.specs.Surveys.{seen_after}
@@ -159,22 +159,6 @@ pub surveyed_none : (words : List ℕ) (s : Survey) → s ≡ record { brackets 
 surveyed_none words s e =
     subst (λ t. Surveyed words t 0) (sym e)
     record { left = best_all (depths words); rungs = zero-add (length (rungs_of words)); covered = λ h. absurd (omega arith); open_bound = omega arith; rungs_bound = omega arith }
-
-opened_bound : (n : ℕ) (i : Option Instruction) → opened_if n i ≤ n + 1
-opened_bound n None = omega arith
-opened_bound n (Some (Load x)) = omega arith
-opened_bound n (Some (LoadNot x)) = omega arith
-opened_bound n (Some (And x)) = omega arith
-opened_bound n (Some (AndNot x)) = omega arith
-opened_bound n (Some (Or x)) = omega arith
-opened_bound n (Some (OrNot x)) = omega arith
-opened_bound n (Some AndOpen) = omega arith
-opened_bound n (Some OrOpen) = omega arith
-opened_bound n (Some Close) = omega arith
-opened_bound n (Some (Store x)) = omega arith
-opened_bound n (Some (StoreNot x)) = omega arith
-opened_bound n (Some (Set x)) = omega arith
-opened_bound n (Some (Reset x)) = omega arith
 
 -- a started rung has no brackets yet; an open one that goes deeper than any becomes the deepest
 covers : (r n d m : ℕ) (b : Bool) → (b ≡ true → (n ≡ 0) × (m ≡ 0)) → (0 < r → n ≤ d) → 0 < cond b (r + 1) r → m ≤ cond (ltb 0 r && ltb d m) m d
