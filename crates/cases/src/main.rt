@@ -2,94 +2,81 @@
 //! and what `startline` prints for it follows on standard output.
 #![tactic(auto)]
 
-use instructions::Store;
-use listings::read_into;
+use anyhow::{Context, Result};
+use instructions::{ShortBuffer, Store};
+use listings::{ListingFault, read_into};
 use programs::Program;
-use std::io;
 use std::io::{Read, Write};
-use translation::take_card;
+use translation::{LadderFault, take_card};
 
 /// The longest listing: 4,096 lines of at most 11 bytes.
 const LISTING_BYTES: usize = 45056;
 
-/// What a line holds.
-#[derive(Clone, Copy)]
-enum Content {
-    Card,
-    Listing,
+/// Room for every status line and refusal line.
+const LINE_BYTES: usize = 96;
+
+/// Prints the front of a buffer that a text was written into.
+fn print_front(rt: &HostRuntime, written: Result<usize, ShortBuffer>, buffer: &[u8]) -> Result<()> {
+    let text = written.ok().and_then(|length| buffer.get(..length));
+    rt.stdout()
+        .write_all(text.context("a text longer than its buffer")?)?;
+    Ok(())
 }
 
-/// The value of a hexadecimal digit.
-fn digit(byte: u8) -> Option<u8> {
-    match byte {
-        b'0'..=b'9' => Some(byte - b'0'),
-        b'a'..=b'f' => Some(byte - b'a' + 10),
-        _ => None,
-    }
-}
-
-/// Takes over a card or a listing, and writes the refusal line where it is refused.
-fn taken(
-    content: Content,
-    bytes: &[u8],
-    staged: &mut Store,
-    program: &mut Program,
-    line: &mut [u8],
-) -> Option<usize> {
-    match content {
-        Content::Card => match take_card(bytes, staged, program) {
-            Ok(_) => None,
-            Err(fault) => Some(fault.write_line(line).unwrap_or(0)),
-        },
-        Content::Listing => match read_into(bytes, program) {
-            Ok(_) => None,
-            Err(fault) => Some(fault.write_line(line).unwrap_or(0)),
-        },
-    }
-}
-
-fn print_front(rt: &HostRuntime, len: usize, buffer: &[u8]) -> io::Result<()> {
-    if len > buffer.len() {
-        return Ok(());
-    }
-    rt.stdout().write_all(&buffer[0..len])
-}
-
-fn print_outcome(rt: &HostRuntime, content: Content, bytes: &[u8]) -> io::Result<()> {
-    let mut staged = Store::new();
-    let mut program = Program::empty();
-    let mut line = [0u8; 96];
-    if let Some(len) = taken(content, bytes, &mut staged, &mut program, &mut line) {
-        return print_front(rt, len, &line);
-    }
-    let len = program.write_status(&mut line).unwrap_or(0);
-    print_front(rt, len, &line)?;
+/// Prints the status line and the listing.
+fn print_program(rt: &HostRuntime, program: &Program) -> Result<()> {
+    let mut line = [0u8; LINE_BYTES];
+    let written = program.write_status(&mut line);
+    print_front(rt, written, &line)?;
     let mut listing = vec![in rt.alloc(); 0u8; LISTING_BYTES]?;
-    let len = program.write_listing(&mut listing).unwrap_or(0);
-    print_front(rt, len, listing.as_slice())
+    let written = program.write_listing(&mut listing);
+    print_front(rt, written, listing.as_slice())
 }
 
-fn main(rt: HostRuntime) -> io::Result<()> {
-    let mut text = Vec::new(rt.alloc());
-    rt.stdin().read_to_end(&mut text)?;
-    let mut bytes = Vec::new(rt.alloc());
-    let mut high = None;
-    let mut content = Content::Card;
-    for byte in text.iter() {
-        match (digit(*byte), high) {
-            (Some(low), Some(first)) => {
-                bytes.push(16u8.wrapping_mul(first).wrapping_add(low))?;
-                high = None;
-            }
-            (Some(first), None) => high = Some(first),
-            (None, _) if *byte == b'#' => content = Content::Listing,
-            (None, _) => {
-                print_outcome(&rt, content, bytes.as_slice())?;
-                bytes.clear();
-                high = None;
-                content = Content::Card;
-            }
+/// Prints the program that was taken over, or the refusal line.
+fn print_outcome<E, F>(
+    rt: &HostRuntime,
+    program: &Program,
+    taken: Result<(usize, usize, usize, usize), E>,
+    write_line: F,
+) -> Result<()>
+where
+    E: Drop,
+    F: FnOnce(E, &mut [u8]) -> Result<usize, ShortBuffer>,
+    requires { F.IsAlwaysCallable write_line }
+{
+    match taken {
+        Ok(_) => print_program(rt, program),
+        Err(fault) => {
+            let mut line = [0u8; LINE_BYTES];
+            let written = write_line(fault, &mut line);
+            print_front(rt, written, &line)
         }
+    }
+}
+
+/// Prints what `startline` prints for the card or the listing of a line.
+fn print_case(rt: &HostRuntime, line: &str) -> Result<()> {
+    let mut program = Program::empty();
+    match line.strip_prefix('#') {
+        Some(digits) => {
+            let listing = hex::decode(rt.alloc(), digits)?;
+            let taken = read_into(listing.as_slice(), &mut program);
+            print_outcome(rt, &program, taken, ListingFault::write_line)
+        }
+        None => {
+            let card = hex::decode(rt.alloc(), line)?;
+            let taken = take_card(card.as_slice(), &mut Store::new(), &mut program);
+            print_outcome(rt, &program, taken, LadderFault::write_line)
+        }
+    }
+}
+
+fn main(rt: HostRuntime) -> Result<()> {
+    let mut text = String::new(rt.alloc());
+    rt.stdin().read_to_string(&mut text)?;
+    for line in text.as_str().lines() {
+        print_case(&rt, line)?;
     }
     Ok(())
 }
@@ -102,10 +89,8 @@ mod tests {
     // The number, rung and bit of a refusal.
     fn refusal(card: &[u8]) -> Option<(u8, u8, u32)> {
         let mut store = Store::new();
-        match translate_card(card, &mut store) {
-            Ok(_) => None,
-            Err(fault) => Some((fault.number(), fault.rung(), fault.bit())),
-        }
+        let refused = translate_card(card, &mut store).err();
+        refused.map(|fault| (fault.number(), fault.rung(), fault.bit()))
     }
 
     #[test]

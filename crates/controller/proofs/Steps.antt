@@ -144,67 +144,48 @@ module _ {B S : Type 0} (k : Kind S) (points : B → List S) (c c' : Controller 
       )
 
 module _ {B S : Type 0} (k : Kind S) (points : B → List S) (c : Controller B S) where
-  pub write_listing_step : (before after : List ℕ) (r : Result ℕ ShortBuffer) → Written (lines.listing (held c.program)) before r after
-      → Step k points c before (WriteListing (length before)) (Writing r) c after
-  write_listing_step before after (Ok n) w s st =
-      let f : Filled (lines.listing (held c.program)) before n after = written_cases (lines.listing (held c.program)) before after (Ok n) w in
-      let text = lines.listing (words_of s.program) in
-      let e : text ≡ lines.listing (held c.program) = ap lines.listing st.words_are in
-      let q : length text ≡ length (lines.listing (held c.program)) = ap length e in
+  -- a writing of the text that some words have
+  writing_step : (call : ℕ → Call S) (text : List ℕ → List ℕ)
+      → ((s : State S) (lent : ℕ) (e : ShortBuffer) → lent ≤ length s.buffer → lent < length (text (words_of s.program)) → Happens k s (call lent) (Writing (Err e)) s)
+      → ((s t : State S) (lent : ℕ) → lent ≤ length s.buffer → length (text (words_of s.program)) ≤ lent → t ≡ with_text s (text (words_of s.program)) → Happens k s (call lent) (Writing (Ok (length (text (words_of s.program))))) t)
+      → (before after : List ℕ) (r : Result ℕ ShortBuffer) → Written (text (held c.program)) before r after
+      → Step k points c before (call (length before)) (Writing r) c after
+  writing_step call text short written before after (Ok n) w s st =
+      let f : Filled (text (held c.program)) before n after = written_cases (text (held c.program)) before after (Ok n) w in
+      let e : text (words_of s.program) ≡ text (held c.program) = ap text st.words_are in
+      let q : length (text (words_of s.program)) ≡ length (text (held c.program)) = ap length e in
       let b : length s.buffer ≡ length before = ap length st.bytes_are in
-      let m : length text ≡ n = q ∙ sym f.count in
-      let t = with_text s text in
+      let m : length (text (words_of s.program)) ≡ n = q ∙ sym f.count in
+      let t = with_text s (text (words_of s.program)) in
       let fit = f.fits in (
         t,
-        subst (λ (x : ℕ). Happens k s (WriteListing (length before)) (Writing (Ok x)) t) m (listing-written s t (length before) (omega arith) (omega arith) refl),
+        subst (λ (x : ℕ). Happens k s (call (length before)) (Writing (Ok x)) t) m (written s t (length before) (omega arith) (omega arith) refl),
         record {
           points_are = st.points_are;
           words_are = st.words_are;
           listed = st.listed;
-          bytes_are = ap (λ (x : List ℕ). x ++ drop (length x) s.buffer) e ∙ ap (λ (x : List ℕ). lines.listing (held c.program) ++ drop (length (lines.listing (held c.program))) x) st.bytes_are ∙ sym f.bytes;
+          bytes_are = ap (λ (x : List ℕ). x ++ drop (length x) s.buffer) e ∙ ap (λ (x : List ℕ). text (held c.program) ++ drop (length (text (held c.program))) x) st.bytes_are ∙ sym f.bytes;
         },
       )
-  write_listing_step before after (Err d) w s st =
-      let f : Unfilled (lines.listing (held c.program)) before after = written_cases (lines.listing (held c.program)) before after (Err d) w in
-      let text = lines.listing (words_of s.program) in
-      let q : length text ≡ length (lines.listing (held c.program)) = ap (λ (x : List ℕ). length (lines.listing x)) st.words_are in
+  writing_step call text short written before after (Err d) w s st =
+      let f : Unfilled (text (held c.program)) before after = written_cases (text (held c.program)) before after (Err d) w in
+      let q : length (text (words_of s.program)) ≡ length (text (held c.program)) = ap (λ (x : List ℕ). length (text x)) st.words_are in
       let b : length s.buffer ≡ length before = ap length st.bytes_are in
-      let short = f.short in (
+      let few = f.short in (
         s,
-        listing_short s (length before) d (omega arith) (omega arith),
+        short s (length before) d (omega arith) (omega arith),
         record { points_are = st.points_are; words_are = st.words_are; listed = st.listed; bytes_are = st.bytes_are ∙ sym f.same },
       )
 
+  pub write_listing_step : (before after : List ℕ) (r : Result ℕ ShortBuffer) → Written (lines.listing (held c.program)) before r after
+      → Step k points c before (WriteListing (length before)) (Writing r) c after
+  write_listing_step =
+      writing_step (λ n. WriteListing n) lines.listing (λ s lent e h g. listing_short s lent e h g) (λ s t lent h g e. listing-written s t lent h g e)
+
   pub write_status_step : (before after : List ℕ) (r : Result ℕ ShortBuffer) → Written (status_line (counts (held c.program))) before r after
       → Step k points c before (WriteStatus (length before)) (Writing r) c after
-  write_status_step before after (Ok n) w s st =
-      let f : Filled (status_line (counts (held c.program))) before n after = written_cases (status_line (counts (held c.program))) before after (Ok n) w in
-      let text = status_line (counts (words_of s.program)) in
-      let e : text ≡ status_line (counts (held c.program)) = ap (λ (x : List ℕ). status_line (counts x)) st.words_are in
-      let q : length text ≡ length (status_line (counts (held c.program))) = ap length e in
-      let b : length s.buffer ≡ length before = ap length st.bytes_are in
-      let m : length text ≡ n = q ∙ sym f.count in
-      let t = with_text s text in
-      let fit = f.fits in (
-        t,
-        subst (λ (x : ℕ). Happens k s (WriteStatus (length before)) (Writing (Ok x)) t) m (status_written s t (length before) (omega arith) (omega arith) refl),
-        record {
-          points_are = st.points_are;
-          words_are = st.words_are;
-          listed = st.listed;
-          bytes_are = ap (λ (x : List ℕ). x ++ drop (length x) s.buffer) e ∙ ap (λ (x : List ℕ). status_line (counts (held c.program)) ++ drop (length (status_line (counts (held c.program)))) x) st.bytes_are ∙ sym f.bytes;
-        },
-      )
-  write_status_step before after (Err d) w s st =
-      let f : Unfilled (status_line (counts (held c.program))) before after = written_cases (status_line (counts (held c.program))) before after (Err d) w in
-      let text = status_line (counts (words_of s.program)) in
-      let q : length text ≡ length (status_line (counts (held c.program))) = ap (λ (x : List ℕ). length (status_line (counts x))) st.words_are in
-      let b : length s.buffer ≡ length before = ap length st.bytes_are in
-      let short = f.short in (
-        s,
-        status_short s (length before) d (omega arith) (omega arith),
-        record { points_are = st.points_are; words_are = st.words_are; listed = st.listed; bytes_are = st.bytes_are ∙ sym f.same },
-      )
+  write_status_step =
+      writing_step (λ n. WriteStatus n) (λ (x : List ℕ). status_line (counts x)) (λ s lent e h g. status_short s lent e h g) (λ s t lent h g e. status_written s t lent h g e)
 
 -- the same controller stands for the same states
 pub stands_same : {B S : Type 0} (points : B → List S) (c c' : Controller B S) (buffer : List ℕ) (s : State S) → c' ≡ c → Stands points c buffer s → Stands points c' buffer s

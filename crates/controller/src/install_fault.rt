@@ -20,6 +20,7 @@ pub enum InstallFault {
     Listing(ListingFault),
 }
 
+// Kept as three matches: one match to a triple, taken apart three times, is no plainer.
 impl InstallFault {
     /// The number of this refusal.
     pub fn number(self) -> u8

@@ -59,6 +59,7 @@ impl<B: Bank> Controller<B> {
         if answers.len() < calls.len() {
             return Err(ShortBuffer);
         }
+        // The places are indexed: after a zip over `answers.iter_mut()` a proof knows none of them.
         for (i, call) in calls.iter().enumerate() {
             answers[i] = self.answer(call, work, buffer);
         }

@@ -11,12 +11,8 @@ fn main(rt: HostRuntime) -> io::Result<()> {
     let mut answers = String::new(rt.alloc());
     let outcome = run_script(rt.alloc(), script.as_slice(), &mut answers);
     rt.stdout().write_all(answers.as_bytes())?;
-    match outcome {
-        Ok(()) => Ok(()),
-        Err(fault) => {
-            let line = fault.line;
-            let cause = fault.cause;
-            println!(rt; "line {line}: {cause}")
-        }
+    if let Err(fault) = outcome {
+        println!(rt; "line {}: {}", fault.line, fault.cause)?;
     }
+    Ok(())
 }

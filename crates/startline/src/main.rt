@@ -7,8 +7,8 @@ mod output;
 use banks::OpenBank;
 use controller::{Controller, InstallFault};
 use help::print_help;
-use output::{failed, print_controller, print_refusal};
-use scripts::{ScriptFault, run_script};
+use output::{print_controller, print_refusal};
+use scripts::run_script;
 use signals::Plain;
 use std::io::{Read, Write};
 use std::process::ExitCode;
@@ -21,100 +21,100 @@ enum Command {
     Listing,
     Run,
     Help,
-    Unknown,
 }
 
-fn command_of(word: &str) -> Command {
+/// The command that a word asks for, if it is one.
+fn command_of(word: &str) -> Option<Command> {
     match word {
-        "listing" => Command::Listing,
-        "run" => Command::Run,
-        "--help" => Command::Help,
-        _ => Command::Unknown,
+        "listing" => Some(Command::Listing),
+        "run" => Some(Command::Run),
+        "--help" => Some(Command::Help),
+        _ => None,
     }
 }
 
-fn chosen(rt: &HostRuntime) -> io::Result<Command> {
+/// The command that the arguments ask for, if they do: a card is translated where there are none.
+fn chosen(rt: &HostRuntime) -> io::Result<Option<Command>> {
     let mut args = env::args(rt)?;
     let _program = args.next();
     let Some(word) = args.next() else {
-        return Ok(Command::Card);
+        return Ok(Some(Command::Card));
     };
     if args.next().is_some() {
-        return Ok(Command::Unknown);
+        return Ok(None);
     }
     Ok(command_of(word.as_str()))
 }
 
-/// Prints what an install left, or its refusal.
-fn report(
-    rt: &HostRuntime,
-    controller: &Controller<OpenBank<'_, Plain>>,
-    installed: Result<(usize, usize, usize, usize), InstallFault>,
-) -> io::Result<()> {
-    match installed {
-        Ok(_) => print_controller(rt, controller),
-        Err(fault) => print_refusal(rt, fault),
-    }
-}
-
-fn translate(rt: &HostRuntime, card: &[u8]) -> io::Result<()> {
-    let mut points = [Plain::Off; 768];
-    let mut controller = Controller::make(OpenBank::over(&mut points));
-    let installed = controller.install_card(card);
-    report(rt, &controller, installed)
-}
-
-fn read_back(rt: &HostRuntime, listing: &[u8]) -> io::Result<()> {
-    let mut points = [Plain::Off; 768];
-    let mut controller = Controller::make(OpenBank::over(&mut points));
-    let installed = controller.install_listing(listing);
-    report(rt, &controller, installed)
-}
-
-/// Says on standard error at which line a script went wrong.
-fn blame(rt: &HostRuntime, fault: ScriptFault) -> io::Result<()> {
-    let line = fault.line;
-    let cause = fault.cause;
-    eprintln!(rt; "startline: line {line}: {cause}")?;
-    Err(failed())
-}
-
-fn run(rt: &HostRuntime, script: &[u8]) -> io::Result<()> {
-    let mut answers = String::new(rt.alloc());
-    let outcome = run_script(rt.alloc(), script, &mut answers);
-    rt.stdout().write_all(answers.as_bytes())?;
-    match outcome {
-        Ok(()) => Ok(()),
-        Err(fault) => blame(rt, fault),
-    }
-}
-
+/// All of standard input; where it cannot be read, that is said on standard error.
 fn input(rt: &HostRuntime) -> io::Result<Vec<u8>> {
     let mut bytes = Vec::new(rt.alloc());
-    if rt.stdin().read_to_end(&mut bytes).is_err() {
+    if let Err(error) = rt.stdin().read_to_end(&mut bytes) {
         eprintln!(rt; "startline: standard input cannot be read")?;
-        return Err(failed());
+        return Err(error);
     }
     Ok(bytes)
 }
 
-fn perform(rt: &HostRuntime) -> io::Result<()> {
-    match chosen(rt)? {
-        Command::Card => translate(rt, input(rt)?.as_slice()),
-        Command::Listing => read_back(rt, input(rt)?.as_slice()),
-        Command::Run => run(rt, input(rt)?.as_slice()),
-        Command::Help => print_help(rt),
-        Command::Unknown => {
-            eprintln!(rt; "startline: unknown argument; see startline --help")?;
-            Err(failed())
+/// Installs standard input as a card or as a listing, and prints what the install left, or its refusal.
+fn translate<F>(rt: &HostRuntime, install: F) -> io::Result<ExitCode>
+where
+    F: FnOnce(
+        &mut Controller<OpenBank<'_, Plain>>,
+        &[u8],
+    ) -> Result<(usize, usize, usize, usize), InstallFault>,
+    requires { F.IsAlwaysCallable install }
+{
+    let bytes = input(rt)?;
+    let mut points = [Plain::Off; 768];
+    let mut controller = Controller::make(OpenBank::over(&mut points));
+    match install(&mut controller, bytes.as_slice()) {
+        Ok(_) => {
+            print_controller(rt, &controller)?;
+            Ok(ExitCode::SUCCESS)
+        }
+        Err(fault) => {
+            print_refusal(rt, fault)?;
+            Ok(ExitCode::FAILURE)
         }
     }
 }
 
-/// What is to be said of a refusal has been said, so an error ends the program with status 1 and no words of its own.
-fn main(rt: HostRuntime) -> ExitCode {
-    match perform(&rt) {
-        Ok(()) => ExitCode::SUCCESS,
-        Err(_) => ExitCode::FAILURE,
+/// Performs the script on standard input, prints the answers, and says on standard error at which line it went wrong.
+fn run(rt: &HostRuntime) -> io::Result<ExitCode> {
+    let script = input(rt)?;
+    let mut answers = String::new(rt.alloc());
+    let outcome = run_script(rt.alloc(), script.as_slice(), &mut answers);
+    rt.stdout().write_all(answers.as_bytes())?;
+    match outcome {
+        Ok(()) => Ok(ExitCode::SUCCESS),
+        Err(fault) => {
+            eprintln!(rt; "startline: line {}: {}", fault.line, fault.cause)?;
+            Ok(ExitCode::FAILURE)
+        }
     }
+}
+
+fn perform(rt: &HostRuntime) -> io::Result<ExitCode> {
+    match chosen(rt)? {
+        Some(Command::Card) => translate(rt, |controller, card| controller.install_card(card)),
+        Some(Command::Listing) => translate(
+            rt,
+            |controller, listing| controller.install_listing(listing),
+        ),
+        Some(Command::Run) => run(rt),
+        Some(Command::Help) => {
+            print_help(rt)?;
+            Ok(ExitCode::SUCCESS)
+        }
+        None => {
+            eprintln!(rt; "startline: unknown argument; see startline --help")?;
+            Ok(ExitCode::FAILURE)
+        }
+    }
+}
+
+/// An error of input or output ends the program with status 1 and no words of its own.
+fn main(rt: HostRuntime) -> ExitCode {
+    perform(&rt).unwrap_or(ExitCode::FAILURE)
 }

@@ -11,24 +11,16 @@ const LISTING_BYTES: usize = 45056;
 /// Room for every status line and refusal line.
 const LINE_BYTES: usize = 96;
 
-/// What ends the program with status 1.
-pub fn failed() -> io::Error {
-    io::Error::from(io::ErrorKind::InvalidInput)
-}
-
 /// Prints the front of a buffer that a text was written into.
 fn print_front(
     rt: &HostRuntime,
     written: Result<usize, ShortBuffer>,
     buffer: &[u8],
 ) -> io::Result<()> {
-    let Ok(len) = written else {
-        return Err(failed());
-    };
-    if len > buffer.len() {
-        return Err(failed());
+    match written.ok().and_then(|length| buffer.get(..length)) {
+        Some(text) => rt.stdout().write_all(text),
+        None => Err(io::Error::from(io::ErrorKind::InvalidData)),
     }
-    rt.stdout().write_all(&buffer[0..len])
 }
 
 /// Prints the status line and the listing.
@@ -41,10 +33,9 @@ pub fn print_controller<B: Bank>(rt: &HostRuntime, controller: &Controller<B>) -
     print_front(rt, written, listing.as_slice())
 }
 
-/// Prints the refusal line, and fails.
+/// Prints the refusal line.
 pub fn print_refusal(rt: &HostRuntime, fault: InstallFault) -> io::Result<()> {
     let mut line = [0u8; LINE_BYTES];
     let written = fault.write_line(&mut line);
-    print_front(rt, written, &line)?;
-    Err(failed())
+    print_front(rt, written, &line)
 }

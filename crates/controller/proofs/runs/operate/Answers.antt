@@ -1,12 +1,5 @@
-use Rattle.std.proofs.Common.{ap, ◌∙◌}
 use Rattle.controller.proofs.Histories.{operated}
 use Rattle.controller.proofs.runs.operate.Goals as goal
 
-pub returns : goal.returns
-returns g c =
-    let h = c.perform-performed.ensures in
-    let m = c.make-controller.ensures in
-    record {
-      run = operated _ _ _ _ _ _ _ _ c.perform-performed.result (m.stands c.args.buffer.now) h.run;
-      untouched = h.untouched ∙ ap g.B.Bank.rest m.same;
-    }
+pub returns-clause-run : goal.returns-clause-run
+returns-clause-run g c = operated _ _ _ _ _ _ _ _ c.perform-performed.result (c.make-controller.ensures.stands c.args.buffer.now) c.perform-performed.ensures.run
