@@ -6,6 +6,7 @@ ghost use Rattle.cards.specs.Reading.{Room};
 use super::fault::{CardCause, CardFault};
 
 /// The bytes of a card, and the bit at which the next field starts.
+// A place in all the bytes and not the bytes that are left: a fault names its bit from the start of the card.
 #[derive(Drop)]
 pub(crate) struct Bits<'a> {
     pub(crate) bytes: &'a [u8],

@@ -32,6 +32,7 @@ impl Active {
     }
 
     /// The other end.
+    // Kept beside `near`: the near end at the side across would be no plainer.
     fn far(self, side: Side) -> u8
         ensures { result ≡ far_of side self }
     {

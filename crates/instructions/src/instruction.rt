@@ -2,6 +2,7 @@
 use points::Point;
 
 /// What an instruction works on.
+// Kept as an enum of its own: `TRUE` is an operand, and that a line shows none is what `None` says.
 #[derive(Clone, Copy)]
 pub enum Operand {
     /// `TRUE`: always on.

@@ -86,6 +86,7 @@ impl Operand {
     }
 }
 
+// A function and no `From`: neither type is of this crate.
 fn area_letter(area: Area) -> u8
     ensures { result ≡ letter area }
 {

@@ -2,7 +2,7 @@
 ghost use Rattle.std.specs.Prelude.{◌≤◌};
 
 /// Room for 4,096 words.
-// A plain array and a length: a store is copied as a value, and a vector of fixed room is not.
+// Kept as a plain array and a length: so the project wants the words of a program kept, and a store is copied as a value.
 #[derive(Clone, Copy)]
 pub struct Store {
     words: [u16; 4096],

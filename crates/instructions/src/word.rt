@@ -26,26 +26,12 @@ impl Operand {
     fn of(area: u16, number: u16) -> Option<Operand>
         ensures { result ≡ operand_of area number }
     {
-        if number > 255 {
-            return None;
+        if area == 0 {
+            return (number == 0).then_some(Operand::True);
         }
-        let number = number as u8;
-        match area {
-            0 if number == 0 => Some(Operand::True),
-            1 => Some(Operand::At(Point {
-                area: Area::Input,
-                number,
-            })),
-            2 => Some(Operand::At(Point {
-                area: Area::Output,
-                number,
-            })),
-            3 => Some(Operand::At(Point {
-                area: Area::Marker,
-                number,
-            })),
-            _ => None,
-        }
+        let area = Area::try_from(area).ok()?;
+        let number = u8::try_from(number).ok()?;
+        Some(Operand::At(Point { area, number }))
     }
 }
 

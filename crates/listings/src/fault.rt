@@ -21,6 +21,7 @@ impl Cause {
     pub fn number(self) -> u8
         ensures { result ≡ cause_number self }
     {
+        // Kept as a match: a broken rule has the number of the fault below.
         match self {
             Cause::NotALine => 12,
             Cause::Broken(fault) => fault.number(),

@@ -36,6 +36,7 @@ pub fn read(bytes: &[u8]) -> Result<Program, ListingFault>
 {
     let mut draft = Draft::new();
     let mut at = Position { byte: 0, line: 0 };
+    // Kept as a loop over positions: a refusal names its byte and line, and the lines of `split_inclusive` carry neither.
     while at.byte < bytes.len() {
         at = read_next(&mut draft, bytes, at)?;
     }
@@ -67,6 +68,7 @@ fn read_next(draft: &mut Draft, bytes: &[u8], at: Position) -> Result<Position, 
     let Some(end) = find_byte(rest, b'\n') else {
         return Err(at.refused(Cause::NotALine));
     };
+    // Kept as a match: each arm answers with the position, and a closure in `map_err` would take it along for one of them.
     match add_line(draft, &rest[..end]) {
         Ok(()) => Ok(Position {
             byte: at.byte + end + 1,

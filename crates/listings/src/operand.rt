@@ -26,6 +26,7 @@ fn point_of(letter: char, digits: &[u8]) -> Option<Operand>
 }
 
 /// The area letter is I for an input, Q for an output, M for a marker.
+// A function and no `TryFrom`: neither type is of this crate.
 fn area_of(letter: char) -> Option<Area>
     ensures { result ≡ area_read letter }
 {

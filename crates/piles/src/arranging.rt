@@ -31,6 +31,7 @@ impl<B: Bank> Layer<B> {
     }
 
     /// Swaps the entries of two inputs, if this is a patch board.
+    // Kept beside `mark`: each asks the one layer that can answer, so what they share is the last line.
     pub fn exchange(&mut self, a: usize, b: usize) -> Result<(), ArrangeFault>
         ensures told { result ≡ exchange_told self.old a b }
         ensures after { Exchanging self.old a b self.new }

@@ -5,6 +5,7 @@ ghost use Rattle.piles.specs.Layered.{layer_shows, layer_short, layer_rest};
 use banks::{Bank, PatchBoard, Strip};
 
 /// A bank as it is, or under a strip or a patch board.
+// An enum and no `dyn Bank`: there is no heap to box a layer, and what its points mean would not be known.
 #[derive(Drop)]
 pub enum Layer<B> {
     Bare(B),

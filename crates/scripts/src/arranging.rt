@@ -24,6 +24,7 @@ fn answer_arranged(
     }
 }
 
+// Kept beside `exchange`: two calls of a pile each, and a closure for each of the four would be no shorter.
 fn mark<B: Bank>(
     pile: &mut Pile<B>,
     place: Place,

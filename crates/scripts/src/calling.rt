@@ -42,6 +42,7 @@ where
     B::Kind: Notation,
 {
     let mut signals = Vec::new(answers.heap());
+    // Kept as a loop: a refused reading is an answer and a failed push an error, and a chain ends for one of them only.
     for index in 0..768 {
         match controller.read_point(index) {
             Ok(signal) => signals.push(signal)?,

@@ -26,6 +26,7 @@ pub trait Notation: Signal {
 }
 
 /// A kind whose signals are one letter each.
+// A trait and no `From` for `char`: neither `char` nor the kinds are of this crate.
 trait Lettered: Signal {
     fn name() -> &'static str;
 

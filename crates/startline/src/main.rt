@@ -24,6 +24,7 @@ enum Command {
 }
 
 /// The command that a word asks for, if it is one.
+// A match and no `FromStr`: of a word that is no command nothing more is said.
 fn command_of(word: &str) -> Option<Command> {
     match word {
         "listing" => Some(Command::Listing),
@@ -89,7 +90,7 @@ fn run(rt: &HostRuntime) -> io::Result<ExitCode> {
     match outcome {
         Ok(()) => Ok(ExitCode::SUCCESS),
         Err(fault) => {
-            eprintln!(rt; "startline: line {}: {}", fault.line, fault.cause)?;
+            eprintln!(rt; "startline: {fault}")?;
             Ok(ExitCode::FAILURE)
         }
     }

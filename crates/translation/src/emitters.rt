@@ -104,6 +104,7 @@ impl Emitter<'_> {
         }
     }
 
+    // The two stay two: the project wants the text of a series and that of a branch group each written through the other.
     /// Writes the text of a part of a series: a branch group that is a later part stands in brackets.
     #[cycle(series_and_branches)]
     fn series(&mut self, at: u8, place: Place)
