@@ -66,6 +66,7 @@ pub(crate) fn clear(slots: &mut Slots, joint: u8)
     }
 }
 
+// Joint and side stay two parameters: a candidate is asked at both sides of one joint.
 /// The joint at the far end of every edge that touches the joint at that side, if such edges have one far end.
 pub(crate) fn only_end(slots: &Slots, side: Side, joint: u8) -> Option<u8>
     ensures { result ≡ only_of (far_ends side joint slots.now) }

@@ -16,6 +16,7 @@ pub trait Notation: Signal {
     fn signal_in(field: &str) -> Option<Self>;
 
     /// The cells of an open bank.
+    // Memory and fields stay two parameters: the fields are read on behind the cells, and the memory is what the answers have.
     fn cells_in(heap: Global, fields: &mut Fields<'_>) -> Result<Vec<Self>, Cause>;
 
     /// Writes a signal.
