@@ -82,7 +82,7 @@ pub fn lend_open(slots: &mut [Plain], index: usize, signal: Plain) -> Option<Pla
 }
 
 /// The same of bytes.
-// Kept apart: each contract speaks of its own memory, and of a bank that is moved into a call the lender learns nothing.
+// Kept apart, as the two above: each contract speaks of its own memory, and of a bank moved into a call the lender learns nothing.
 pub fn lend_packed(bytes: &mut [u8], index: usize, signal: Doubtful) -> Option<Doubtful>
     ensures back { result ≡ read_back (unpacked bytes.old) index signal }
     ensures elsewhere { Elsewhere index (unpacked bytes.old) (unpacked bytes.new) }

@@ -101,10 +101,7 @@ fn strip_reads(
     let mut strip = Strip::over(OpenBank::over(&mut slots[0..given]));
     strip.mark(input, true)?;
     assert_eq!(rt; strip.read(input), signal);
-    assert_eq!(rt;
-        strip.read(256),
-        if given > 256 { Some(Plain::Off) } else { None }
-    );
+    assert_eq!(rt; strip.read(256), (given > 256).then_some(Plain::Off));
     Ok(())
 }
 

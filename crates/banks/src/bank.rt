@@ -18,7 +18,7 @@ pub trait Bank {
     /// tables. A write keeps it, so the lender learns what is left there.
     ghost Rest: { Type 0 };
 
-    // It stands in the contract of each function that is lent a bank: no type can say what is left behind a `&mut B`.
+    // The rest stands in the contract of each function that is lent a bank: no type says what is left behind a `&mut B`.
     ghost rest: { Self → Rest };
 
     /// How many points there are.

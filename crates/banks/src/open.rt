@@ -41,7 +41,7 @@ fn slots_read<S: Signal>(slots: &[S], index: usize) -> Option<S>
     point_slots(slots).get(index).copied()
 }
 
-// Kept as a test of the index: `get_mut` of the memory would need the same test beside it, for what lies beyond.
+// Kept as a test of the index: behind what `get_mut` lends, nothing is proved of the other slots.
 fn slots_write<S: Signal>(slots: &mut [S], index: usize, signal: S) -> bool
     ensures told { result ≡ nat_lt index (length (take 768 slots.old)) }
     ensures after { take 768 slots.new ≡ slice_set (take 768 slots.old) index signal }

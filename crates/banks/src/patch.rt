@@ -13,7 +13,7 @@ use crate::refusal::Refusal;
 use crate::table::Table;
 use signals::Signal;
 
-// Kept as a type beside the strip: what they share is three bodies of one line, and a trait over marks and table would
+// Kept as a type beside the strip: what they share is four bodies of one line, and a trait over marks and table would
 // need laws of place and passing that are as long as the two impls.
 /// Reads and writes each input at the input below that the table gives for it.
 #[derive(Drop)]

@@ -89,7 +89,7 @@ impl<B: Bank> Strip<B> {
         ensures here { input < 256 → slice_get (strip_shows B.Kind.Signal.kind B.points self.new) input ≡ option_map (past B.Kind.Signal.kind inverted) (slice_get (B.points self.old.bank) input) }
         ensures elsewhere { Elsewhere input (strip_shows B.Kind.Signal.kind B.points self.old) (strip_shows B.Kind.Signal.kind B.points self.new) }
     {
-        // Kept as a test of the number: of a mark lent by `get_mut` and `ok_or`, nothing is proved of the other marks.
+        // Kept as a test of the number: behind a mark that `get_mut` lends, nothing is proved of the other marks.
         if input < 256 {
             self.marks[input] = inverted;
             Ok(())

@@ -43,7 +43,7 @@ fn link_of(joints: u8, from: u16, to: u16, contact: Option<Contact>) -> Option<L
     (link.from < joints && link.to < joints && link.from != link.to).then_some(link)
 }
 
-// A function and no `From`: neither type is of this crate.
+// A function and no `From`: the numbers of actions are the card's, and `Action` is of another crate.
 fn action_of(action: u16) -> Action
     ensures { result ≡ action_of action }
 {

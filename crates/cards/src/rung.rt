@@ -58,7 +58,7 @@ impl Bits<'_> {
     }
 
     /// Fills an empty row with the `count` parts that come next, in a rung of so many joints.
-    // The row is lent: that a row of its own fits in memory is nothing that a generic function knows.
+    // The row is lent: a generic function cannot show that a row of its own fits in memory.
     fn fill<T: Part, const N: usize>(
         &mut self,
         row: &mut ArrayVec<T, N>,

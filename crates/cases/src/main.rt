@@ -2,10 +2,10 @@
 //! and what `startline` prints for it follows on standard output.
 #![tactic(auto)]
 
-use anyhow::{Context, Result};
 use instructions::{ShortBuffer, Store};
 use listings::{ListingFault, read_into};
 use programs::Program;
+use std::io;
 use std::io::{Read, Write};
 use translation::{LadderFault, take_card};
 
@@ -16,15 +16,19 @@ const LISTING_BYTES: usize = 45056;
 const LINE_BYTES: usize = 96;
 
 /// Prints the front of a buffer that a text was written into.
-fn print_front(rt: &HostRuntime, written: Result<usize, ShortBuffer>, buffer: &[u8]) -> Result<()> {
-    let text = written.ok().and_then(|length| buffer.get(..length));
-    rt.stdout()
-        .write_all(text.context("a text longer than its buffer")?)?;
-    Ok(())
+fn print_front(
+    rt: &HostRuntime,
+    written: Result<usize, ShortBuffer>,
+    buffer: &[u8],
+) -> io::Result<()> {
+    match written.ok().and_then(|length| buffer.get(..length)) {
+        Some(text) => rt.stdout().write_all(text),
+        None => Ok(()),
+    }
 }
 
 /// Prints the status line and the listing.
-fn print_program(rt: &HostRuntime, program: &Program) -> Result<()> {
+fn print_program(rt: &HostRuntime, program: &Program) -> io::Result<()> {
     let mut line = [0u8; LINE_BYTES];
     let written = program.write_status(&mut line);
     print_front(rt, written, &line)?;
@@ -39,7 +43,7 @@ fn print_outcome<E, F>(
     program: &Program,
     taken: Result<(usize, usize, usize, usize), E>,
     write_line: F,
-) -> Result<()>
+) -> io::Result<()>
 where
     E: Drop,
     F: FnOnce(E, &mut [u8]) -> Result<usize, ShortBuffer>,
@@ -55,28 +59,58 @@ where
     }
 }
 
-/// Prints what `startline` prints for the card or the listing of a line.
-fn print_case(rt: &HostRuntime, line: &str) -> Result<()> {
+/// Whether a byte stands in a case; every other byte ends one.
+fn is_in_case(byte: u8) -> bool {
+    matches!(byte, b'0'..=b'9' | b'a'..=b'f' | b'#')
+}
+
+/// The byte of two hexadecimal digits.
+fn byte_of(pair: &[u8]) -> u8 {
+    pair.iter().fold(0u8, |value, digit| {
+        let digit = char::from(*digit).to_digit(16).unwrap_or(0);
+        value.wrapping_mul(16).wrapping_add((digit & 0xf) as u8)
+    })
+}
+
+/// The bytes of hexadecimal digits, two a byte.
+fn bytes_of(rt: &HostRuntime, case: &[u8]) -> io::Result<Vec<u8>> {
+    let mut digits = Vec::new(rt.alloc());
+    for byte in case {
+        if *byte != b'#' {
+            digits.push(*byte)?;
+        }
+    }
+    let mut bytes = Vec::new(rt.alloc());
+    for pair in digits.as_slice().chunks_exact(2) {
+        bytes.push(byte_of(pair))?;
+    }
+    Ok(bytes)
+}
+
+/// Prints what `startline` prints for a card, or for the listing that a `#` marks.
+fn print_case(rt: &HostRuntime, case: &[u8]) -> io::Result<()> {
+    let bytes = bytes_of(rt, case)?;
     let mut program = Program::empty();
-    match line.strip_prefix('#') {
-        Some(digits) => {
-            let listing = hex::decode(rt.alloc(), digits)?;
-            let taken = read_into(listing.as_slice(), &mut program);
-            print_outcome(rt, &program, taken, ListingFault::write_line)
-        }
-        None => {
-            let card = hex::decode(rt.alloc(), line)?;
-            let taken = take_card(card.as_slice(), &mut Store::new(), &mut program);
-            print_outcome(rt, &program, taken, LadderFault::write_line)
-        }
+    if case.contains(&b'#') {
+        let taken = read_into(bytes.as_slice(), &mut program);
+        print_outcome(rt, &program, taken, ListingFault::write_line)
+    } else {
+        let taken = take_card(bytes.as_slice(), &mut Store::new(), &mut program);
+        print_outcome(rt, &program, taken, LadderFault::write_line)
     }
 }
 
-fn main(rt: HostRuntime) -> Result<()> {
-    let mut text = String::new(rt.alloc());
-    rt.stdin().read_to_string(&mut text)?;
-    for line in text.as_str().lines() {
-        print_case(&rt, line)?;
+fn main(rt: HostRuntime) -> io::Result<()> {
+    let mut text = Vec::new(rt.alloc());
+    rt.stdin().read_to_end(&mut text)?;
+    for case in text.as_slice().split_inclusive(|byte| !is_in_case(*byte)) {
+        let Some((end, case)) = case.split_last() else {
+            return Ok(());
+        };
+        // What stands behind the last end is no case.
+        if !is_in_case(*end) {
+            print_case(&rt, case)?;
+        }
     }
     Ok(())
 }

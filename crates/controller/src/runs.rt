@@ -66,7 +66,7 @@ impl<B: Bank> Controller<B> {
         Ok(())
     }
 
-    // Signals and bytes stay two parameters: both are the caller's, and a struct would be made for this one call.
+    // Signals and bytes stay two parameters, as the public calls have them: a scan needs the one, a writing the other.
     /// Performs one call: it is lent as many of the working signals or bytes as it wants, or all that there are.
     fn answer(
         &mut self,

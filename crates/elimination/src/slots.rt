@@ -32,7 +32,7 @@ impl Active {
     }
 
     /// The other end.
-    // Kept beside `near`: the near end at the side across would be no plainer.
+    // Kept beside `near`: asking for the near end at the opposite side would be no plainer.
     fn far(self, side: Side) -> u8
         ensures { result ≡ far_of side self }
     {
@@ -66,7 +66,7 @@ pub(crate) fn clear(slots: &mut Slots, joint: u8)
     }
 }
 
-// Joint and side stay two parameters: a candidate is asked at both sides of one joint.
+// Joint and side stay two parameters: one joint is asked at both sides, and a pair would be made for each call.
 /// The joint at the far end of every edge that touches the joint at that side, if such edges have one far end.
 pub(crate) fn only_end(slots: &Slots, side: Side, joint: u8) -> Option<u8>
     ensures { result ≡ only_of (far_ends side joint slots.now) }

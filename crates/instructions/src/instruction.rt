@@ -2,7 +2,7 @@
 use points::Point;
 
 /// What an instruction works on.
-// Kept as an enum of its own: `TRUE` is an operand, and that a line shows none is what `None` says.
+// No `Option<Point>`: `TRUE` is an operand, and `None` says that a line shows none.
 #[derive(Clone, Copy)]
 pub enum Operand {
     /// `TRUE`: always on.

@@ -2,7 +2,7 @@
 ghost use Rattle.std.specs.Prelude.{◌≤◌};
 
 /// Room for 4,096 words.
-// Kept as a plain array and a length: so the project wants the words of a program kept, and a store is copied as a value.
+// A plain array of 4,096 and a length, by the project's rule; a store is copied as a value, which no vector or model is.
 #[derive(Clone, Copy)]
 pub struct Store {
     words: [u16; 4096],

@@ -36,7 +36,7 @@ pub fn read(bytes: &[u8]) -> Result<Program, ListingFault>
 {
     let mut draft = Draft::new();
     let mut at = Position { byte: 0, line: 0 };
-    // Kept as a loop over positions: a refusal names its byte and line, and the lines of `split_inclusive` carry neither.
+    // Kept as a loop over positions: a refusal names its byte, which the lines of `split_inclusive` do not carry.
     while at.byte < bytes.len() {
         at = read_next(&mut draft, bytes, at)?;
     }

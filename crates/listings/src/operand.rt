@@ -39,6 +39,7 @@ fn area_of(letter: char) -> Option<Area>
 }
 
 /// A number 0 to 255 without leading zeros.
+// By digits and no `parse`: that would let `+5` and `007` through.
 fn number_of(digits: &[u8]) -> Option<u8>
     ensures { result ≡ number_read digits.now }
 {

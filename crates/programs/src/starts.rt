@@ -2,7 +2,7 @@
 ghost use Rattle.std.specs.Prelude.{◌≤◌};
 
 /// Room for the places at which 128 rungs start.
-// Kept as a plain array and a length, as `Store` is: a program is copied as a value, and a vector of fixed room is not.
+// A plain array and a length beside `Store`, whose size is fixed by rule: a program is copied as a value, as no vector is.
 #[derive(Clone, Copy)]
 pub(crate) struct Starts {
     places: [u16; 128],

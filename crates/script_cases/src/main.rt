@@ -12,7 +12,7 @@ fn main(rt: HostRuntime) -> io::Result<()> {
     let outcome = run_script(rt.alloc(), script.as_slice(), &mut answers);
     rt.stdout().write_all(answers.as_bytes())?;
     if let Err(fault) = outcome {
-        println!(rt; "{fault}")?;
+        println!(rt; "line {}: {}", fault.line, fault.cause)?;
     }
     Ok(())
 }

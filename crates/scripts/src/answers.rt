@@ -3,6 +3,7 @@ use crate::fault::Cause;
 use controller::{InstallFault, Refusal};
 use instructions::ShortBuffer;
 use std::alloc::Global;
+use std::fmt;
 
 /// The answers of a script so far, to which more are appended.
 #[derive(Drop)]
@@ -31,18 +32,13 @@ impl<'a> Answers<'a> {
         Ok(())
     }
 
-    pub(crate) fn line(&mut self, words: &str) -> Result<(), Cause> {
-        writeln!(self.text, "{words}")?;
+    pub(crate) fn line<T: fmt::Display + Drop>(&mut self, said: T) -> Result<(), Cause> {
+        writeln!(self.text, "{said}")?;
         Ok(())
     }
 
     pub(crate) fn done(&mut self) -> Result<(), Cause> {
         self.line("ok")
-    }
-
-    pub(crate) fn count(&mut self, count: usize) -> Result<(), Cause> {
-        writeln!(self.text, "{count}")?;
-        Ok(())
     }
 
     /// A refusal that has no place.

@@ -24,7 +24,7 @@ fn answer_arranged(
     }
 }
 
-// Kept beside `exchange`: two calls of a pile each, and a closure for each of the four would be no shorter.
+// Kept beside `exchange`: the layers at the two places differ in type, so one closure cannot be called on both.
 fn mark<B: Bank>(
     pile: &mut Pile<B>,
     place: Place,
@@ -53,7 +53,7 @@ fn exchange<B: Bank>(
 fn answer_look<S: Notation>(signal: Option<S>, answers: &mut Answers<'_>) -> Result<(), Cause> {
     match signal {
         Some(signal) => signal.write(answers.text())?,
-        None => answers.text().push_str("nothing")?,
+        None => return answers.line("nothing"),
     }
     answers.end()
 }
@@ -81,7 +81,7 @@ where
         Command::Exchange(place, a, b) => {
             answer_arranged(exchange(&mut pile, place, a, b), answers)?
         }
-        Command::Count => answers.count(pile.count())?,
+        Command::Count => answers.line(pile.count())?,
         Command::Look(index) => answer_look(pile.read(index), answers)?,
         // Whether the write altered a point.
         Command::Put(index, signal) => answers.line(if pile.write(index, signal) {

@@ -45,14 +45,6 @@ impl fmt::Display for Cause {
     }
 }
 
-impl fmt::Display for ScriptFault {
-    fn fmt<W: fmt::Write>(&self, f: &mut fmt::Formatter<W>) -> fmt::Result {
-        let line = self.line;
-        let cause = self.cause;
-        write!(f, "line {line}: {cause}")
-    }
-}
-
 impl From<AllocError> for Cause {
     fn from(_e: AllocError) -> Cause {
         Cause::NoMemory

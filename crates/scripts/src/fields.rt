@@ -76,16 +76,19 @@ fn byte_of(pair: &[u8]) -> Option<u8> {
     Some(digit(*high)? * 16 + digit(*low)?)
 }
 
+/// What a field lists: nothing where it is `-`, and an empty field is none.
+pub(crate) fn listed(field: &str) -> Result<&str, Cause> {
+    match field {
+        "-" => Ok(""),
+        "" => Err(Cause::NotACommand),
+        _ => Ok(field),
+    }
+}
+
 /// The bytes that a field says, two hexadecimal digits each; `-` for none.
 pub fn bytes_in(heap: Global, field: &str) -> Result<Vec<u8>, Cause> {
     let mut bytes = Vec::new(heap);
-    if field == "-" {
-        return Ok(bytes);
-    }
-    if field.is_empty() {
-        return Err(Cause::NotACommand);
-    }
-    for pair in field.as_bytes().chunks(2) {
+    for pair in listed(field)?.as_bytes().chunks(2) {
         bytes.push(byte_of(pair).ok_or(Cause::NotACommand)?)?;
     }
     Ok(bytes)

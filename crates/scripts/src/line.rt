@@ -22,18 +22,8 @@ impl<'a> Line<'a> {
     }
 
     /// Whether the first word of the line is this one.
-    fn begins(self, word: &str) -> bool {
+    pub(crate) fn begins(self, word: &str) -> bool {
         Fields::of(self.text).more() == Some(word)
-    }
-
-    /// Whether the line begins another kind.
-    pub(crate) fn begins_kind(self) -> bool {
-        self.begins("kind")
-    }
-
-    /// Whether the line begins another bank.
-    pub(crate) fn begins_bank(self) -> bool {
-        self.begins("bank")
     }
 
     /// The kind that the line names.

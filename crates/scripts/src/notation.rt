@@ -1,6 +1,6 @@
 //! How signals are written in scripts.
 use crate::fault::Cause;
-use crate::fields::Fields;
+use crate::fields::{Fields, listed};
 use signals::{Doubtful, Plain, Signal};
 use std::alloc::Global;
 
@@ -16,7 +16,7 @@ pub trait Notation: Signal {
     fn signal_in(field: &str) -> Option<Self>;
 
     /// The cells of an open bank.
-    // Memory and fields stay two parameters: the fields are read on behind the cells, and the memory is what the answers have.
+    // Memory and fields stay two parameters: fields follow the cells, and are read on without memory.
     fn cells_in(heap: Global, fields: &mut Fields<'_>) -> Result<Vec<Self>, Cause>;
 
     /// Writes a signal.
@@ -110,15 +110,8 @@ impl<S: Lettered> Notation for S {
     }
 
     fn cells_in(heap: Global, fields: &mut Fields<'_>) -> Result<Vec<S>, Cause> {
-        let field = fields.field()?;
         let mut cells = Vec::new(heap);
-        if field == "-" {
-            return Ok(cells);
-        }
-        if field.is_empty() {
-            return Err(Cause::NotACommand);
-        }
-        for letter in field.chars() {
+        for letter in listed(fields.field()?)?.chars() {
             cells.push(S::of_letter(letter).ok_or(Cause::NotACommand)?)?;
         }
         Ok(cells)

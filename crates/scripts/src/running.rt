@@ -109,27 +109,45 @@ fn run_section<S: Notation>(
 
 /// Performs the commands on one kind, bank after bank.
 fn run_kind<S: Notation>(lines: &[Line<'_>], answers: &mut Answers<'_>) -> Result<(), ScriptFault> {
-    for section in lines.chunk_by(|_, next| !next.begins_bank()) {
+    for section in lines.chunk_by(|_, next| !next.begins("bank")) {
         run_section::<S>(section, answers)?;
+    }
+    Ok(())
+}
+
+/// Performs a script section by section, each on the kind that its first line names, if `run` knows that kind.
+fn run_sections<F>(
+    heap: Global,
+    text: &[u8],
+    out: &mut String,
+    mut run: F,
+) -> Result<(), ScriptFault>
+where
+    F: FnMut(&str, &[Line<'_>], &mut Answers<'_>) -> Option<Result<(), ScriptFault>>,
+    requires { F.IsAlwaysCallable run }
+{
+    let lines = lines_of(heap, text)?;
+    let mut answers = Answers::after(out);
+    for section in lines.chunk_by(|_, next| !next.begins("kind")) {
+        let Some((first, rest)) = section.split_first() else {
+            return Ok(());
+        };
+        let kind = first.kind().map_err(|cause| first.fault(cause))?;
+        match run(kind, rest, &mut answers) {
+            Some(outcome) => outcome?,
+            None => return Err(first.fault(Cause::NoSuchKind)),
+        }
     }
     Ok(())
 }
 
 /// Performs a script on the plain and the doubtful kind, and appends the answers, as far as it goes.
 pub fn run_script(heap: Global, text: &[u8], out: &mut String) -> Result<(), ScriptFault> {
-    let lines = lines_of(heap, text)?;
-    let mut answers = Answers::after(out);
-    for section in lines.chunk_by(|_, next| !next.begins_kind()) {
-        let Some((first, rest)) = section.split_first() else {
-            return Ok(());
-        };
-        match first.kind().map_err(|cause| first.fault(cause))? {
-            "plain" => run_kind::<Plain>(rest, &mut answers)?,
-            "doubtful" => run_kind::<Doubtful>(rest, &mut answers)?,
-            _ => return Err(first.fault(Cause::NoSuchKind)),
-        }
-    }
-    Ok(())
+    run_sections(heap, text, out, |kind, lines, answers| match kind {
+        "plain" => Some(run_kind::<Plain>(lines, answers)),
+        "doubtful" => Some(run_kind::<Doubtful>(lines, answers)),
+        _ => None,
+    })
 }
 
 /// Performs a script on one kind, and appends the answers, as far as it goes.
@@ -138,16 +156,11 @@ pub fn run_script_on<S: Notation>(
     text: &[u8],
     out: &mut String,
 ) -> Result<(), ScriptFault> {
-    let lines = lines_of(heap, text)?;
-    let mut answers = Answers::after(out);
-    for section in lines.chunk_by(|_, next| !next.begins_kind()) {
-        let Some((first, rest)) = section.split_first() else {
-            return Ok(());
-        };
-        if first.kind().map_err(|cause| first.fault(cause))? != S::name() {
-            return Err(first.fault(Cause::NoSuchKind));
+    run_sections(heap, text, out, |kind, lines, answers| {
+        if kind == S::name() {
+            Some(run_kind::<S>(lines, answers))
+        } else {
+            None
         }
-        run_kind::<S>(rest, &mut answers)?;
-    }
-    Ok(())
+    })
 }

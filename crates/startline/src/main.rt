@@ -90,7 +90,7 @@ fn run(rt: &HostRuntime) -> io::Result<ExitCode> {
     match outcome {
         Ok(()) => Ok(ExitCode::SUCCESS),
         Err(fault) => {
-            eprintln!(rt; "startline: {fault}")?;
+            eprintln!(rt; "startline: line {}: {}", fault.line, fault.cause)?;
             Ok(ExitCode::FAILURE)
         }
     }

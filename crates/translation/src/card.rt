@@ -31,7 +31,7 @@ pub fn translate_card(
 }
 
 /// Adds the words of a card's rungs to an empty store, one rung after the other.
-// Card and store stay two parameters: both are the caller's, and a struct would be made for this one call.
+// Card and store stay two parameters, as the public calls have them: one is read, and the other filled and emptied.
 fn translate_rungs(card: &[u8], staged: &mut Store) -> Result<(), LadderFault>
     requires { stored staged.old ≡ [] }
     ensures { Told card.now result staged.new }

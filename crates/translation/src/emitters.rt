@@ -29,7 +29,7 @@ struct Emitter<'a> {
     rung: &'a Rung,
     /// Holds the rung's wiring.
     table: &'a Table,
-    /// Room for the words of any rung: 64 links read as 192 words at most, and 8 coils follow.
+    /// Room for the words of any rung: 64 links read as 190 words at most, and 8 coils follow.
     draft: ArrayVec<u16, 200>,
 }
 
@@ -104,7 +104,7 @@ impl Emitter<'_> {
         }
     }
 
-    // The two stay two: the project wants the text of a series and that of a branch group each written through the other.
+    // Two and not one, by the project's rule: the text of a series and that of a branch group are each written through the other.
     /// Writes the text of a part of a series: a branch group that is a later part stands in brackets.
     #[cycle(series_and_branches)]
     fn series(&mut self, at: u8, place: Place)

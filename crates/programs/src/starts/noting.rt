@@ -24,6 +24,7 @@ impl Starts {
     }
 
     /// Notes a place, if a rung begins there.
+    // A flag beside the place: what a word adds is one list, of one place or none, and its law is said once.
     pub(crate) fn note(&mut self, place: u16, begins: bool)
         requires { begins ≡ true → self.old.len < 128 }
         ensures value { noted self.new ≡ noted self.old ++ (if begins then place ∷ [] else []) }
