@@ -62,13 +62,11 @@ impl<B: Bank> PatchBoard<B> {
         ensures swaps { self.new.table.to ≡ rewired self.old.table.to a b }
         ensures shows { board_shows B.Kind.Signal.kind B.points self.new ≡ repatched B.Kind.Signal.kind (board_shows B.Kind.Signal.kind B.points self.old) a b }
     {
-        // Kept as one test of both numbers: two `try_from`, each with its error mapped, are no plainer.
-        if a < 256 && b < 256 {
-            self.table.exchange(a as u8, b as u8);
-            Ok(())
-        } else {
-            Err(Refusal::NoSuchInput)
-        }
+        let (Ok(a), Ok(b)) = (u8::try_from(a), u8::try_from(b)) else {
+            return Err(Refusal::NoSuchInput);
+        };
+        self.table.exchange(a, b);
+        Ok(())
     }
 }
 

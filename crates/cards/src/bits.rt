@@ -7,6 +7,7 @@ use super::fault::{CardCause, CardFault};
 
 /// The bytes of a card, and the bit at which the next field starts.
 // A place in all the bytes and not the bytes that are left: a fault names its bit from the start of the card.
+// `Room` is asked of each reader: a field could bound the bits that are read, and not those to come.
 #[derive(Drop)]
 pub(crate) struct Bits<'a> {
     pub(crate) bytes: &'a [u8],

@@ -16,6 +16,7 @@ const LISTING_BYTES: usize = 45056;
 const LINE_BYTES: usize = 96;
 
 /// Prints the front of a buffer that a text was written into.
+// As in `startline`: two programs print so, and a library for two functions would be no plainer.
 fn print_front(
     rt: &HostRuntime,
     written: Result<usize, ShortBuffer>,

@@ -37,6 +37,7 @@ fn write_lines(words: &[u16], buffer: &mut [u8]) -> usize
     ensures value { result ≡ length (listing words.now) }
     ensures after { buffer.new ≡ listing words.now ++ drop (length (listing words.now)) buffer.old }
 {
+    // Kept as a loop: lines differ in length, so where one begins is known only from those before it.
     let mut end = 0;
     for word in words {
         let line = line(*word);

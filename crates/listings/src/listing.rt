@@ -68,7 +68,7 @@ fn read_next(draft: &mut Draft, bytes: &[u8], at: Position) -> Result<Position, 
     let Some(end) = find_byte(rest, b'\n') else {
         return Err(at.refused(Cause::NotALine));
     };
-    // Kept as a match: each arm answers with the position, and a closure in `map_err` would take it along for one of them.
+    // Kept as a match: behind `map_err` and `?` it was not proved which refusal is told, nor how far the draft has come.
     match add_line(draft, &rest[..end]) {
         Ok(()) => Ok(Position {
             byte: at.byte + end + 1,

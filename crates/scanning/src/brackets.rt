@@ -4,6 +4,7 @@ ghost use Rattle.std.specs.Prelude.{◌≤◌, length};
 use super::joining::Joining;
 use arrayvec::ArrayVec;
 
+// Two rows side by side: the signals stand in the caller's slice, by the project's rule, which has no room for joinings.
 /// How each open bracket will join, the outermost first. The signals that they set aside stand in working signals of
 /// the caller's, at the same places.
 #[derive(Drop)]

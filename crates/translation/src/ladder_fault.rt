@@ -24,6 +24,7 @@ pub struct AtRung {
 }
 
 /// Why a card is refused.
+// No trait over this and the faults of listings and installs: each names its place by its own word, bit, byte or place.
 #[derive(Clone, Copy)]
 pub enum LadderFault {
     Card(InRung),
