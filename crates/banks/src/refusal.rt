@@ -10,6 +10,7 @@ pub enum Refusal {
 }
 
 impl Refusal {
+    // One line in each of six enums: each answers by the definition of its own cases, and a trait would need as many impls.
     pub fn number(self) -> u8
         ensures { result ≡ refusal_number self }
     {

@@ -40,6 +40,8 @@ fn extend(table: &mut Table, slot: Option<Active>, low: u8, group: Option<Group>
     }
 }
 
+// Functions over table and slots and no methods of `Reduction`: until the edges of a group are cleared there may be more
+// nodes and edges than its type allows.
 /// The group of the edges that touch the joint at that side, in the order of their lowest links.
 pub(crate) fn gather(table: &mut Table, slots: &Slots, side: Side, joint: u8) -> Option<Group>
     requires stands { Stands table.old.nodes.items slots.now }
