@@ -1,5 +1,4 @@
 use Rattle.std.proofs.Common.{◌≡◌, ◌+◌, ◌^◌, ◌-◌, max, min, get_or, drop, ap, ◌∙◌, arith}
-use Rattle.std.proofs.lemmas.List.{at_drop_all}
 use Rattle.instructions.specs.Words.{instruction_of}
 use Rattle.instructions.specs.Depth.{opened_if, deepest}
 use Rattle.instructions.proofs.Deepest.{opened_bound, deepest-more}
@@ -17,10 +16,3 @@ loop-word-preserved c =
     let x = c.max-deepest.ensures in
     let step = deepest-more n c.brackets_after-open.result c.loop-word.deepest ws i (omega arith) m c.loop-word.invariant.2 in
     (ap (λ k. max k (deepest c.brackets_after-open.result (drop (i + 1) ws))) x ∙ step ∙ c.loop-word.invariant.0, omega arith, omega arith)
-
-pub returns : goal.returns
-returns c =
-    let e = at_drop_all (deepest c.loop-word.«open») c.args.words.now c.loop-word.word-index (omega arith) in
-    let h = c.loop-word.invariant.0 in
-    let l = c.loop-word.invariant.2 in
-    omega arith

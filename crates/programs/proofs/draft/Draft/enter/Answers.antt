@@ -3,13 +3,8 @@ use Rattle.instructions.specs.Stores.{stored}
 use Rattle.programs.specs.Places.{place_of}
 use Rattle.programs.specs.Rules.{lead_to}
 use Rattle.programs.specs.Counts.{starts_of}
-use Rattle.programs.proofs.Drafts.{leads_more, room_more, kept_one, starts_more, count_more, count_below}
+use Rattle.programs.proofs.Drafts.{leads_more, room_more, kept_one, starts_more, count_more}
 use Rattle.programs.proofs.draft.Draft.enter.Goals as goal
-
-pub note-requires : goal.note-requires
-note-requires c =
-    let d = c.args.self.now in
-    λ t. count_below d.checker.rungs c.args.checker.rungs d.starts.len d.counted c.args.checker.few t
 
 pub invariant_of-self : goal.invariant_of-self
 invariant_of-self c =

@@ -1,14 +1,11 @@
-use Rattle.std.proofs.Common.{ℕ, List, Ok, Err, sym, ap, ◌∙◌, subst, arith}
+use Rattle.std.proofs.Common.{ℕ, List, Err, sym, ap, ◌∙◌, subst, arith}
 use Rattle.std.proofs.lemmas.List.{take_all}
 use Rattle.std.proofs.lemmas.Result.{err_from_is_err_and}
-use Rattle.programs.specs.Rules.{led, concluded, judged}
-use Rattle.programs.specs.Drafts.{drafted, standing}
+use Rattle.programs.specs.Rules.{concluded, judged}
+use Rattle.programs.specs.Drafts.{standing}
 use Rattle.programs.specs.Programs.{Taken}
-use Rattle.programs.proofs.Drafts.{led-more, taken_more, judged_refused, judged-all}
+use Rattle.programs.proofs.Drafts.{judged_refused, judged-all}
 use Rattle.programs.proofs.program.Program.of.Goals as goal
-
-pub loop-word-init : goal.loop-word-init
-loop-word-init c = (ap (λ p. led (Ok p) c.args.words.now) c.new-draft.ensures.place, c.new-draft.ensures.words)
 
 pub returns-in_err-add : goal.returns-in_err-add
 returns-in_err-add c =
@@ -16,15 +13,6 @@ returns-in_err-add c =
     let p = err_from_is_err_and c.from_residual.result c.from_residual.ensures.1 in
     subst (λ r. Taken words (judged words) r) (sym (p.1 ∙ ap Err p.2))
     (judged_refused words c.loop-word.word-index (standing c.loop-word.draft) c.in_err-add.field-0.0 (omega arith) c.loop-word.invariant.0 c.in_err-add.ensures.0)
-
-pub loop-word-preserved : goal.loop-word-preserved
-loop-word-preserved c =
-    let words = c.args.words.now in
-    let i = c.loop-word.word-index in
-    let before = c.loop-word.draft in
-    let after = c.add.new.self in
-    let a = c.in_ok-add.ensures in
-    (led-more words i (standing before) (standing after) (omega arith) c.loop-word.invariant.0 a.0, taken_more words i (drafted before) (drafted after) (omega arith) c.loop-word.invariant.1 a.1)
 
 pub returns : goal.returns
 returns c =
