@@ -1,6 +1,6 @@
 //! Rungs, read from a card one after the other.
-ghost use Rattle.std.specs.Prelude.{◌≡◌, ◌*◌, ◌≤◌, [], OnOk};
-ghost use Rattle.arrayvec.specs.ArrayVec.{array_vec_len};
+ghost use Rattle.std.specs.Prelude.{◌≡◌, ◌*◌, ◌≤◌, [], length, OnOk};
+ghost use Rattle.rows.specs.Rows.{parts_of};
 ghost use Rattle.wiring.specs.Circuit.{circuit};
 ghost use Rattle.cards.specs.Rungs.{row_at, sized, sizes_at, rung_at, rung_bits};
 ghost use Rattle.cards.specs.Reading.{Room, Ahead, Took, Means};
@@ -9,7 +9,7 @@ use super::bits::Bits;
 use super::fault::{CardCause, CardFault};
 use super::part::Part;
 use super::sizes::Sizes;
-use arrayvec::ArrayVec;
+use rows::Row;
 use wiring::Rung;
 
 fn sizes_of(bit: u32, joints: u16, links: u16, coils: u16) -> Result<Sizes, CardFault>
@@ -33,9 +33,9 @@ impl Bits<'_> {
         ensures ahead { Ahead self.old (λ rung. rung_bits (circuit rung)) result self.new }
     {
         let sizes = self.sizes()?;
-        let mut links = ArrayVec::new();
+        let mut links = Row::new();
         self.fill(&mut links, sizes.joints, sizes.links)?;
-        let mut coils = ArrayVec::new();
+        let mut coils = Row::new();
         self.fill(&mut coils, sizes.joints, sizes.coils)?;
         Ok(Rung {
             joints: sizes.joints,
@@ -61,20 +61,20 @@ impl Bits<'_> {
     // The row is lent: a generic function cannot show that a row of its own fits in memory.
     fn fill<T: Part, const N: usize>(
         &mut self,
-        row: &mut ArrayVec<T, N>,
+        row: &mut Row<T, N>,
         joints: u8,
         count: u8,
     ) -> Result<(), CardFault>
         requires near { Room self.old (T.width * count) }
-        requires empty { row.old.items ≡ [] }
+        requires empty { parts_of row.old ≡ [] }
         requires few { count ≤ N }
-        ensures value { Took result (row_at (T.part_at self.old.bytes.now joints) T.width count self.old.at) row.new.items }
-        ensures many { OnOk result (array_vec_len row.new ≡ count) }
+        ensures value { Took result (row_at (T.part_at self.old.bytes.now joints) T.width count self.old.at) (parts_of row.new) }
+        ensures many { OnOk result (length (parts_of row.new) ≡ count) }
         ensures ahead { Ahead self.old (λ _. T.width * count) result self.new }
     {
         // Kept as a loop: a part that is refused ends it, and `collect` tells a proof nothing of when.
         for _ in 0..count {
-            row.push(T::read(self, joints)?);
+            let _ = row.push(T::read(self, joints)?);
         }
         Ok(())
     }

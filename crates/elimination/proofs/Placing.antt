@@ -1,5 +1,6 @@
 -- The links in their slots.
 use Rattle.std.proofs.Common.{◌≢◌, ◌≡◌, ℕ, zero, suc, ◌+◌, ◌<◌, ◌≤◌, List, [], ◌∷◌, ◌++◌, length, get_or, set, replicate, Some, None, Option, sym, refl, ap, ◌∙◌, subst, ap₂, add-one, arith}
+use Rattle.rows.specs.Rows.{parts_of}
 use native.Mathlib.Decide.{ℕ_discrete}
 use Rattle.std.proofs.lemmas.List.{get_or-set_same, get_or-set_other, length-set}
 use Rattle.std.proofs.lemmas.Option.{none-some}
@@ -97,5 +98,5 @@ pub placed-all : (c : Circuit) (links : List Link) (l : List (Option Active)) (n
 placed-all c links l ns e P = P.edges_are c e ∙ ap (λ k. first-edges c (length k)) (sym e)
 
 -- the ends of a drawn rung's links differ
-pub rung_loopless : (r : Rung) → Loopless r.links.items
-rung_loopless r i h = (linked-at r.joints r.links.items r.linked i h).apart
+pub rung_loopless : (r : Rung) → Loopless (parts_of r.links)
+rung_loopless r i h = (linked-at r.joints (parts_of r.links) r.linked i h).apart

@@ -1,5 +1,6 @@
 //! Branch groups, and the edge that takes the place of a joint.
 ghost use Rattle.std.specs.Prelude.{◌+◌, ◌≤◌, map, length};
+ghost use Rattle.rows.specs.Rows.{parts_of};
 ghost use Rattle.wiring.specs.Elimination.{Eligible};
 ghost use Rattle.elimination.specs.Slots.{touch, edges, live, Stands};
 ghost use Rattle.elimination.specs.Groups.{Grown, Sits, SitsGroup, Room, Extends, Gathered, Merged};
@@ -24,11 +25,11 @@ pub(crate) struct Passage {
 
 /// The group with one edge more, whose lowest link is below the group's.
 fn extend(table: &mut Table, slot: Option<Active>, low: u8, group: Option<Group>) -> Option<Group>
-    requires slot { Sits (length table.old.nodes.items) slot }
-    requires group { SitsGroup (length table.old.nodes.items) group }
-    requires room { Room (length table.old.nodes.items) slot group }
-    ensures grown { Grown table.old.nodes.items table.new.nodes.items }
-    ensures value { Extends low table.old.nodes.items table.new.nodes.items slot group result }
+    requires slot { Sits (length (parts_of table.old.nodes)) slot }
+    requires group { SitsGroup (length (parts_of table.old.nodes)) group }
+    requires room { Room (length (parts_of table.old.nodes)) slot group }
+    ensures grown { Grown (parts_of table.old.nodes) (parts_of table.new.nodes) }
+    ensures value { Extends low (parts_of table.old.nodes) (parts_of table.new.nodes) slot group result }
 {
     match (slot, group) {
         (None, _) => group,
@@ -44,9 +45,9 @@ fn extend(table: &mut Table, slot: Option<Active>, low: u8, group: Option<Group>
 // nodes and edges than its type allows.
 /// The group of the edges that touch the joint at that side, in the order of their lowest links.
 pub(crate) fn gather(table: &mut Table, slots: &Slots, side: Side, joint: u8) -> Option<Group>
-    requires stands { Stands table.old.nodes.items slots.now }
-    requires room { length table.old.nodes.items + live (map (touch side joint) slots.now) ≤ 128 }
-    ensures { Gathered 0 (map (touch side joint) slots.now) table.old.nodes.items table.new.nodes.items result }
+    requires stands { Stands (parts_of table.old.nodes) slots.now }
+    requires room { length (parts_of table.old.nodes) + live (map (touch side joint) slots.now) ≤ 128 }
+    ensures { Gathered 0 (map (touch side joint) slots.now) (parts_of table.old.nodes) (parts_of table.new.nodes) result }
 {
     // Kept as a loop: each turn also adds to the table, and of what a fold's closure changes a proof knows nothing.
     let mut group = None;
@@ -58,10 +59,10 @@ pub(crate) fn gather(table: &mut Table, slots: &Slots, side: Side, joint: u8) ->
 
 /// The group into a joint in series with the group out of it.
 pub(crate) fn merge(table: &mut Table, slots: &Slots, passage: Passage) -> Group
-    requires stands { Stands table.old.nodes.items slots.now }
-    requires room { length table.old.nodes.items + live slots.now ≤ 128 }
-    requires may { Eligible (edges table.old.nodes.items slots.now) passage.joint passage.from passage.to }
-    ensures { Merged passage.joint slots.now table.old.nodes.items table.new.nodes.items result }
+    requires stands { Stands (parts_of table.old.nodes) slots.now }
+    requires room { length (parts_of table.old.nodes) + live slots.now ≤ 128 }
+    requires may { Eligible (edges (parts_of table.old.nodes) slots.now) passage.joint passage.from passage.to }
+    ensures { Merged passage.joint slots.now (parts_of table.old.nodes) (parts_of table.new.nodes) result }
 {
     let into = gather(table, slots, Side::Entering, passage.joint).unwrap();
     let out = gather(table, slots, Side::Leaving, passage.joint).unwrap();

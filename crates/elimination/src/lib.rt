@@ -1,6 +1,7 @@
 //! Recognition of series-parallel rungs by the elimination of joints.
 #![tactic(auto)]
 
+ghost use Rattle.rows.specs.Rows.{parts_of};
 ghost use Rattle.wiring.specs.Circuit.{circuit};
 ghost use Rattle.elimination.specs.Answer.{Answer};
 
@@ -18,7 +19,7 @@ use wiring::Rung;
 /// Finds the wiring that reads a rung, and leaves it in the table: the position of its root, or `None` if the
 /// rung is not series-parallel.
 pub fn decompose(rung: &Rung, table: &mut Table) -> Option<u8>
-    ensures { Answer (circuit rung.now) table.new.nodes.items result }
+    ensures { Answer (circuit rung.now) (parts_of table.new.nodes) result }
 {
     let mut reduction = Reduction::of(rung);
     if !reduction.reduce() {

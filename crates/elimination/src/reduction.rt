@@ -1,6 +1,7 @@
 //! The elimination of one joint after the other.
 ghost use Rattle.std.specs.Prelude.{◌≡◌, ◌+◌, ◌≤◌, ◌≢◌, length};
 ghost use Rattle.std.specs.List.{list_all};
+ghost use Rattle.rows.specs.Rows.{parts_of};
 ghost use Rattle.wiring.specs.Circuit.{circuit};
 ghost use Rattle.wiring.specs.Elimination.{Eligible};
 ghost use Rattle.elimination.specs.Slots.{edges, live, Stands};
@@ -17,8 +18,8 @@ pub(crate) struct Reduction {
     pub table: Table,
     pub slots: Slots,
     joints: u8,
-    ghost stands: { Stands table.nodes.items slots },
-    ghost room: { length table.nodes.items + live slots ≤ 128 },
+    ghost stands: { Stands (parts_of table.nodes) slots },
+    ghost room: { length (parts_of table.nodes) + live slots ≤ 128 },
     ghost two: { 2 ≤ joints },
     ghost most: { joints ≤ 32 },
 }
@@ -46,7 +47,7 @@ impl Reduction {
     /// The links of a rung, each in its slot.
     pub(crate) fn of(rung: &Rung) -> Reduction
         ensures joints { result.joints ≡ rung.now.joints }
-        ensures placed { Placed (length (circuit rung.now).links) (circuit rung.now).links result.slots result.table.nodes.items }
+        ensures placed { Placed (length (circuit rung.now).links) (circuit rung.now).links result.slots (parts_of result.table.nodes) }
     {
         let mut table = Table::new();
         let mut slots = [None; 64];
@@ -80,10 +81,10 @@ impl Reduction {
 
     /// Puts one edge in the place of a joint and of all edges at it.
     fn eliminate(&mut self, passage: Passage)
-        requires may { Eligible (edges self.old.table.nodes.items self.old.slots) passage.joint passage.from passage.to }
+        requires may { Eligible (edges (parts_of self.old.table.nodes) self.old.slots) passage.joint passage.from passage.to }
         requires apart { passage.from ≢ passage.to }
         ensures joints { self.new.joints ≡ self.old.joints }
-        ensures step { Eliminated passage.joint passage.from passage.to self.old.slots self.old.table.nodes.items self.new.slots self.new.table.nodes.items }
+        ensures step { Eliminated passage.joint passage.from passage.to self.old.slots (parts_of self.old.table.nodes) self.new.slots (parts_of self.new.table.nodes) }
     {
         let group = merge(&mut self.table, &self.slots, passage);
         clear(&mut self.slots, passage.joint);
@@ -97,7 +98,7 @@ impl Reduction {
     /// Eliminates joints as long as one can be: true if every inner joint is gone and every edge that is left goes
     /// from joint 0 to the coil joint.
     pub(crate) fn reduce(&mut self) -> bool
-        ensures { Outcome self.old.joints (length self.old.table.nodes.items + live self.old.slots) (edges self.old.table.nodes.items self.old.slots) self.new.slots self.new.table.nodes.items result }
+        ensures { Outcome self.old.joints (length (parts_of self.old.table.nodes) + live self.old.slots) (edges (parts_of self.old.table.nodes) self.old.slots) self.new.slots (parts_of self.new.table.nodes) result }
     {
         let mut gone = [false; 32];
         while let Some(next) = self.pick(&gone) {

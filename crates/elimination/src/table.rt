@@ -1,8 +1,9 @@
 //! The decomposition table: the wiring of a rung, node by node.
 ghost use Rattle.std.specs.Prelude.{◌≡◌, ℕ, ◌+◌, ◌<◌, true, [], length};
+ghost use Rattle.rows.specs.Rows.{parts_of};
 ghost use Rattle.elimination.specs.Trees.{lower, tree_at, formed, Under};
 
-use arrayvec::ArrayVec;
+use rows::Row;
 
 /// A link by its number, or two parts by their positions in the table.
 // Parts are positions and not owned boxes, since memory is fixed and there is no heap.
@@ -25,25 +26,23 @@ impl Default for Node {
 }
 
 /// Room for the nodes of a rung of 64 links. The parts of a node stand at lower positions.
-#[derive(Drop)]
+#[derive(Clone, Copy)]
 pub struct Table {
-    pub nodes: ArrayVec<Node, 127>,
-    ghost falls: { lower 0 nodes.items ≡ true },
+    pub nodes: Row<Node, 127>,
+    ghost falls: { lower 0 (parts_of nodes) ≡ true },
 }
 
 impl Table {
     /// An empty table.
     pub fn new() -> Table
-        ensures { result.nodes.items ≡ [] }
+        ensures { parts_of result.nodes ≡ [] }
     {
-        Table {
-            nodes: ArrayVec::new(),
-        }
+        Table { nodes: Row::new() }
     }
 
     /// The node at a position, whose parts stand at lower positions; past the end it is link 0.
     pub fn node(&self, at: u8) -> Node
-        ensures tree { tree_at self.now.nodes.items at ≡ formed (tree_at self.now.nodes.items) result }
+        ensures tree { tree_at (parts_of self.now.nodes) at ≡ formed (tree_at (parts_of self.now.nodes)) result }
         ensures below { Under at result }
     {
         self.nodes
@@ -54,15 +53,15 @@ impl Table {
 
     /// Puts a node whose parts stand in the table at its end, and gives its position.
     pub(crate) fn push(&mut self, node: Node) -> u8
-        requires room { length self.old.nodes.items < 127 }
-        requires falls { Under (length self.old.nodes.items) node }
-        ensures value { result ≡ length self.old.nodes.items }
-        ensures len { length self.new.nodes.items ≡ length self.old.nodes.items + 1 }
-        ensures tree { tree_at self.new.nodes.items (length self.old.nodes.items) ≡ formed (tree_at self.old.nodes.items) node }
-        ensures same { (i : ℕ) → i < length self.old.nodes.items → tree_at self.new.nodes.items i ≡ tree_at self.old.nodes.items i }
+        requires room { length (parts_of self.old.nodes) < 127 }
+        requires falls { Under (length (parts_of self.old.nodes)) node }
+        ensures value { result ≡ length (parts_of self.old.nodes) }
+        ensures len { length (parts_of self.new.nodes) ≡ length (parts_of self.old.nodes) + 1 }
+        ensures tree { tree_at (parts_of self.new.nodes) (length (parts_of self.old.nodes)) ≡ formed (tree_at (parts_of self.old.nodes)) node }
+        ensures same { (i : ℕ) → i < length (parts_of self.old.nodes) → tree_at (parts_of self.new.nodes) i ≡ tree_at (parts_of self.old.nodes) i }
     {
         let at = self.nodes.len() as u8;
-        self.nodes.push(node);
+        let _ = self.nodes.push(node);
         at
     }
 }

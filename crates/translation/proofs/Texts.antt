@@ -1,6 +1,7 @@
 -- The words of a part, made of the words of its own parts.
 use Rattle.std.proofs.Common.{◌≡◌, ℕ, ◌≤◌, List, [], ◌∷◌, ◌++◌, length, sym, refl, ap, ◌∙◌, subst, arith}
 use Rattle.std.proofs.lemmas.List.{append_assoc, append-nil, length-append, length-map, map-append}
+use Rattle.rows.specs.Rows.{parts_of}
 use Rattle.instructions.specs.declared.instruction.Instruction.{Instruction}
 use Rattle.instructions.specs.declared.instruction.Instruction.TheVariants.{AndOpen, OrOpen, Close}
 use Rattle.instructions.specs.Words.{word_of}
@@ -43,10 +44,10 @@ abbrev pub Steady : (Emitter → List ℕ) → Type 0
 Steady f = (before : Emitter) (us : List ℕ) (after : Emitter) → Adds before us after → f after ≡ f before
 
 pub steady_series : (place : Place) (at : ℕ) → Steady (λ e. series_at e place at)
-steady_series place at before us after p = λ t. series_words (circuit (p.rung t).now) place (tree_at (p.table t).now.nodes.items at)
+steady_series place at before us after p = λ t. series_words (circuit (p.rung t).now) place (tree_at (parts_of (p.table t).now.nodes) at)
 
 pub steady_branches : (place : Place) (at : ℕ) → Steady (λ e. branches_at e place at)
-steady_branches place at before us after p = λ t. branch_words (circuit (p.rung t).now) place (tree_at (p.table t).now.nodes.items at)
+steady_branches place at before us after p = λ t. branch_words (circuit (p.rung t).now) place (tree_at (parts_of (p.table t).now.nodes) at)
 
 pub steady_coils : Steady coils_at
 steady_coils before us after p = λ t. coil_words (circuit (p.rung t).now).coils
@@ -135,35 +136,35 @@ module _ (c : Circuit) where
 
 -- the same at a position of an emitter's table
 module _ (e : Emitter) (place : Place) where
-  pub series_leaf : (at i : ℕ) {x : Instruction} → tree_at e.table.now.nodes.items at ≡ link i → x ≡ series_contact place (link_at (circuit e.rung.now) i).contact → series_at e place at ≡ word_of x ∷ []
+  pub series_leaf : (at i : ℕ) {x : Instruction} → tree_at (parts_of e.table.now.nodes) at ≡ link i → x ≡ series_contact place (link_at (circuit e.rung.now) i).contact → series_at e place at ≡ word_of x ∷ []
   series_leaf at i tree q = ap (series_words (circuit e.rung.now) place) tree ∙ series_link (circuit e.rung.now) place i ∙ ap (λ j. word_of j ∷ []) (sym q)
 
-  pub branch_leaf : (at i : ℕ) {x : Instruction} → tree_at e.table.now.nodes.items at ≡ link i → x ≡ branch_contact place (link_at (circuit e.rung.now) i).contact → branches_at e place at ≡ word_of x ∷ []
+  pub branch_leaf : (at i : ℕ) {x : Instruction} → tree_at (parts_of e.table.now.nodes) at ≡ link i → x ≡ branch_contact place (link_at (circuit e.rung.now) i).contact → branches_at e place at ≡ word_of x ∷ []
   branch_leaf at i tree q = ap (branch_words (circuit e.rung.now) place) tree ∙ branch_link (circuit e.rung.now) place i ∙ ap (λ j. word_of j ∷ []) (sym q)
 
   module _ (at a b : ℕ) where
-    pub series_in_two : tree_at e.table.now.nodes.items at ≡ series (tree_at e.table.now.nodes.items a) (tree_at e.table.now.nodes.items b) → Room e (series_at e place at) → InTwo e (series_at e place at) (λ x. series_at x place a) (λ x. series_at x Later b)
+    pub series_in_two : tree_at (parts_of e.table.now.nodes) at ≡ series (tree_at (parts_of e.table.now.nodes) a) (tree_at (parts_of e.table.now.nodes) b) → Room e (series_at e place at) → InTwo e (series_at e place at) (λ x. series_at x place a) (λ x. series_at x Later b)
     series_in_two tree r =
         in_two (λ x. series_at x place a) (λ x. series_at x Later b) (steady_series Later b)
         (ap (series_words (circuit e.rung.now) place) tree ∙ series_series (circuit e.rung.now) place _ _) r
 
-    pub branches_in_two : tree_at e.table.now.nodes.items at ≡ parallel (tree_at e.table.now.nodes.items a) (tree_at e.table.now.nodes.items b) → Room e (branches_at e place at) → InTwo e (branches_at e place at) (λ x. branches_at x place a) (λ x. branches_at x Later b)
+    pub branches_in_two : tree_at (parts_of e.table.now.nodes) at ≡ parallel (tree_at (parts_of e.table.now.nodes) a) (tree_at (parts_of e.table.now.nodes) b) → Room e (branches_at e place at) → InTwo e (branches_at e place at) (λ x. branches_at x place a) (λ x. branches_at x Later b)
     branches_in_two tree r =
         in_two (λ x. branches_at x place a) (λ x. branches_at x Later b) (steady_branches Later b)
         (ap (branch_words (circuit e.rung.now) place) tree ∙ branch_parallel (circuit e.rung.now) place _ _) r
 
-    pub group_in_brackets : tree_at e.table.now.nodes.items at ≡ parallel (tree_at e.table.now.nodes.items a) (tree_at e.table.now.nodes.items b) → Room e (series_at e place at) → InBrackets e (series_at e place at) (bracketed place AndOpen) (λ x. branches_at x First a) (λ x. branches_at x Later b) (bracketed place Close)
+    pub group_in_brackets : tree_at (parts_of e.table.now.nodes) at ≡ parallel (tree_at (parts_of e.table.now.nodes) a) (tree_at (parts_of e.table.now.nodes) b) → Room e (series_at e place at) → InBrackets e (series_at e place at) (bracketed place AndOpen) (λ x. branches_at x First a) (λ x. branches_at x Later b) (bracketed place Close)
     group_in_brackets tree r =
         in_brackets (bracketed place AndOpen) (λ x. branches_at x First a) (λ x. branches_at x Later b) (bracketed place Close) (steady_branches First a) (steady_branches Later b)
         (ap (series_words (circuit e.rung.now) place) tree ∙ series_parallel (circuit e.rung.now) place _ _) r
 
-    pub series_in_brackets : tree_at e.table.now.nodes.items at ≡ series (tree_at e.table.now.nodes.items a) (tree_at e.table.now.nodes.items b) → Room e (branches_at e place at) → InBrackets e (branches_at e place at) (bracketed place OrOpen) (λ x. series_at x First a) (λ x. series_at x Later b) (bracketed place Close)
+    pub series_in_brackets : tree_at (parts_of e.table.now.nodes) at ≡ series (tree_at (parts_of e.table.now.nodes) a) (tree_at (parts_of e.table.now.nodes) b) → Room e (branches_at e place at) → InBrackets e (branches_at e place at) (bracketed place OrOpen) (λ x. series_at x First a) (λ x. series_at x Later b) (bracketed place Close)
     series_in_brackets tree r =
         in_brackets (bracketed place OrOpen) (λ x. series_at x First a) (λ x. series_at x Later b) (bracketed place Close) (steady_series First a) (steady_series Later b)
         (ap (branch_words (circuit e.rung.now) place) tree ∙ branch_series (circuit e.rung.now) place _ _) r
 
 -- the text of a rung's wiring, and then its coils
-pub rung_in_two : (e : Emitter) (root : ℕ) → e.draft.items ≡ [] → length (rung_words (circuit e.rung.now) (tree_at e.table.now.nodes.items root)) ≤ 200 → InTwo e (rung_words (circuit e.rung.now) (tree_at e.table.now.nodes.items root)) (λ x. series_at x First root) coils_at
+pub rung_in_two : (e : Emitter) (root : ℕ) → e.draft.items ≡ [] → length (rung_words (circuit e.rung.now) (tree_at (parts_of e.table.now.nodes) root)) ≤ 200 → InTwo e (rung_words (circuit e.rung.now) (tree_at (parts_of e.table.now.nodes) root)) (λ x. series_at x First root) coils_at
 rung_in_two e root n h = let k = ap length n in in_two (λ x. series_at x First root) coils_at steady_coils refl (record { fits = omega arith })
 
 -- a draft has room for every rung

@@ -1,5 +1,6 @@
 -- For the contracts of the emitters: the words drafted so far, and the text of a part by its place.
 use Rattle.std.specs.Prelude.{◌≡◌, ℕ, ◌+◌, ◌≤◌, List, [], ◌∷◌, ◌++◌, length}
+use Rattle.rows.specs.Rows.{parts_of}
 use Rattle.wiring.specs.declared.rung.Contact.{Contact}
 use Rattle.wiring.specs.Circuit.{Circuit, circuit}
 use Rattle.wiring.specs.Text.{Word, Text, link_text, text}
@@ -32,10 +33,10 @@ branch_words c place w = spell c (branches_text place (text link_text w))
 
 -- the words of the part at a position of the emitter's table, as a part of a series and as a part of a branch group
 abbrev pub series_at : Emitter → Place → ℕ → List ℕ
-series_at e place at = series_words (circuit e.rung.now) place (tree_at e.table.now.nodes.items at)
+series_at e place at = series_words (circuit e.rung.now) place (tree_at (parts_of e.table.now.nodes) at)
 
 abbrev pub branches_at : Emitter → Place → ℕ → List ℕ
-branches_at e place at = branch_words (circuit e.rung.now) place (tree_at e.table.now.nodes.items at)
+branches_at e place at = branch_words (circuit e.rung.now) place (tree_at (parts_of e.table.now.nodes) at)
 
 -- the words of the coils
 abbrev pub coils_at : Emitter → List ℕ

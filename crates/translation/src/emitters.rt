@@ -2,6 +2,7 @@
 //!
 //! The two emitters write the text of a series and the text of a branch group, each through the other.
 ghost use Rattle.std.specs.Prelude.{◌≡◌, ◌≤◌, [], ◌∷◌, length};
+ghost use Rattle.rows.specs.Rows.{parts_of};
 ghost use Rattle.wiring.specs.Circuit.{circuit, link_at};
 ghost use Rattle.elimination.specs.Trees.{tree_at};
 ghost use Rattle.instructions.specs.Words.{word_of};
@@ -35,8 +36,8 @@ struct Emitter<'a> {
 
 /// The words of a rung: the text of its wiring, and then its coils.
 pub(crate) fn draft_of(rung: &Rung, table: &Table, root: u8) -> ArrayVec<u16, 200>
-    requires { length (rung_words (circuit rung.now) (tree_at table.now.nodes.items root)) ≤ 200 }
-    ensures { result.items ≡ rung_words (circuit rung.now) (tree_at table.now.nodes.items root) }
+    requires { length (rung_words (circuit rung.now) (tree_at (parts_of table.now.nodes) root)) ≤ 200 }
+    ensures { result.items ≡ rung_words (circuit rung.now) (tree_at (parts_of table.now.nodes) root) }
 {
     let mut emitter = Emitter {
         rung,

@@ -1,5 +1,6 @@
 -- A circuit: what a drawn rung means, and the wirings that read it.
 use Rattle.std.specs.Prelude.{ℕ, ◌-◌, ◌<◌, ◌↔◌, List, length, slice_index_or}
+use Rattle.rows.specs.Rows.{parts_of}
 use Rattle.wiring.specs.declared.rung.Coil.{Coil}
 use Rattle.wiring.specs.declared.rung.Contact.TheVariants.{Wire}
 use Rattle.wiring.specs.declared.rung.Link.{Link}
@@ -16,7 +17,7 @@ pub record Circuit : Type 0 where
 
 -- the links and coils of a drawn rung
 abbrev pub circuit : Rung → Circuit
-circuit r = record { joints = r.joints; links = r.links.items; coils = r.coils.items }
+circuit r = record { joints = r.joints; links = parts_of r.links; coils = parts_of r.coils }
 
 -- the joint that feeds the coils
 abbrev pub coil_joint : Circuit → ℕ

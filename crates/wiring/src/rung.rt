@@ -1,9 +1,10 @@
 //! A rung as it is drawn: joints, the links between them, and the coils.
 ghost use Rattle.std.specs.Prelude.{◌≡◌, ◌≤◌, true, length};
+ghost use Rattle.rows.specs.Rows.{parts_of};
 ghost use Rattle.wiring.specs.Drawn.{linked, driven};
 
-use arrayvec::ArrayVec;
 use points::Point;
+use rows::Row;
 
 /// What a link passes on.
 #[derive(Clone, Copy, Default)]
@@ -45,17 +46,17 @@ pub struct Coil {
 /// A rung within the limits: 2 to 32 joints, 1 to 64 links, 1 to 8 coils.
 ///
 /// Joint 0 is the left rail, the highest joint feeds all coils.
-#[derive(Drop)]
+#[derive(Clone, Copy)]
 pub struct Rung {
     pub joints: u8,
-    pub links: ArrayVec<Link, 64>,
-    pub coils: ArrayVec<Coil, 8>,
+    pub links: Row<Link, 64>,
+    pub coils: Row<Coil, 8>,
     ghost two: { 2 ≤ joints },
     ghost most: { joints ≤ 32 },
-    ghost some_link: { 1 ≤ length links.items },
-    ghost most_links: { length links.items ≤ 64 },
-    ghost some_coil: { 1 ≤ length coils.items },
-    ghost most_coils: { length coils.items ≤ 8 },
-    ghost linked: { linked joints links.items ≡ true },
-    ghost driven: { driven coils.items ≡ true },
+    ghost some_link: { 1 ≤ length (parts_of links) },
+    ghost most_links: { length (parts_of links) ≤ 64 },
+    ghost some_coil: { 1 ≤ length (parts_of coils) },
+    ghost most_coils: { length (parts_of coils) ≤ 8 },
+    ghost linked: { linked joints (parts_of links) ≡ true },
+    ghost driven: { driven (parts_of coils) ≡ true },
 }

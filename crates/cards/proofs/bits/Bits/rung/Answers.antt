@@ -1,4 +1,5 @@
 use Rattle.std.proofs.Common.{◌≡◌, ◌+◌, ◌*◌, Ok, sym, ◌∙◌, arith}
+use Rattle.rows.specs.Rows.{parts_of}
 use Rattle.cards.specs.Rungs.{links_at, coils_at}
 use Rattle.cards.proofs.Limits.{sizes_counted, links_linked, coils-driven}
 use Rattle.cards.proofs.Rows.{rung_from}
@@ -17,8 +18,8 @@ invariant_of-result c =
       most_links = omega (arith, k.most_links, ll);
       some_coil = omega (arith, k.some_coil, lc);
       most_coils = omega (arith, k.most_coils, lc);
-      linked = links_linked n.links c.sizes.new.self.bytes.now n.joints c.sizes.new.self.at c.fill.new.row.items c.in_ok-fill.ensures.value;
-      driven = coils-driven n.coils c.fill.new.self.bytes.now c.fill.new.self.at c.fill-2.new.row.items c.in_ok-fill-2.ensures.value;
+      linked = links_linked n.links c.sizes.new.self.bytes.now n.joints c.sizes.new.self.at (parts_of c.fill.new.row) c.in_ok-fill.ensures.value;
+      driven = coils-driven n.coils c.fill.new.self.bytes.now c.fill.new.self.at (parts_of c.fill-2.new.row) c.in_ok-fill-2.ensures.value;
     }
 
 pub returns : goal.returns
@@ -31,8 +32,8 @@ returns c =
     let s1 = c.sizes.ensures.ahead.0 in
     let s2 = c.fill.ensures.ahead.0 ∙ s1 in
     let e1 = sym c.sizes.ensures.value ∙ c.in_ok-sizes.was in
-    let e2 : links_at n.links bs n.joints (at + 17) ≡ Ok c.fill.new.row.items = (λ i. links_at n.links (sym s1 i) n.joints (sym a1 i)) ∙ c.in_ok-fill.ensures.value in
-    let e3 : coils_at n.coils bs (at + 17 + 22 * n.links) ≡ Ok c.fill-2.new.row.items = (λ i. coils_at n.coils (sym s2 i) (sym a2 i)) ∙ c.in_ok-fill-2.ensures.value in
+    let e2 : links_at n.links bs n.joints (at + 17) ≡ Ok (parts_of c.fill.new.row) = (λ i. links_at n.links (sym s1 i) n.joints (sym a1 i)) ∙ c.in_ok-fill.ensures.value in
+    let e3 : coils_at n.coils bs (at + 17 + 22 * n.links) ≡ Ok (parts_of c.fill-2.new.row) = (λ i. coils_at n.coils (sym s2 i) (sym a2 i)) ∙ c.in_ok-fill-2.ensures.value in
     record {
       value = rung_from bs at n e1 e2 e3;
       ahead = (c.fill-2.ensures.ahead.0 ∙ s2, omega (arith, c.in_ok-fill-2.ensures.ahead.1, a2, c.in_ok-fill.ensures.many, c.in_ok-fill-2.ensures.many));
