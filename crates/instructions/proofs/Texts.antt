@@ -5,13 +5,23 @@ use Rattle.std.proofs.lemmas.List.{length-append, take_more, append_assoc, appen
 use Rattle.std.proofs.lemmas.List.Concat.{length-flat_map}
 use Rattle.std.proofs.lemmas.List.Edits.{paste_all}
 use Rattle.std.proofs.lemmas.Slice.{put_mid-paste}
-use Rattle.std.proofs.lemmas.Fmt.{decimal_step, length-decimal-le}
+use Rattle.std.proofs.lemmas.Fmt.{decimal_step, decimal_digit, length-decimal-le}
 use Rattle.std.specs.List.{flat_map, sum_by}
 use Rattle.instructions.specs.Lines.{word_line, listing}
 
 -- the digits of a number, its last one apart
 pub length_decimal_step : (n : ℕ) → 10 ≤ n → n < 2 ^ 64 → length (decimal n) ≡ length (decimal (n / 10)) + 1
 length_decimal_step n h k = ap length (decimal_step n h k) ∙ length-append (decimal (n / 10)) ((48 + n % 10) ∷ [])
+
+-- how many digits a small number has
+pub one_digit : (n : ℕ) → n < 10 → length (decimal n) ≡ 1
+one_digit n h = ap length (decimal_digit n h)
+
+pub two_digits : (n : ℕ) → 10 ≤ n → n < 100 → length (decimal n) ≡ 2
+two_digits n h k = length_decimal_step n h (omega arith) ∙ ap (λ m. m + 1) (one_digit (n / 10) (omega arith))
+
+pub all_three : (n : ℕ) → 100 ≤ n → n < 256 → length (decimal n) ≡ 3
+all_three n h k = length_decimal_step n (omega arith) (omega arith) ∙ ap (λ m. m + 1) (two_digits (n / 10) (omega arith) (omega arith))
 
 -- how many digits a number has at most
 pub few_digits : (n : ℕ) → n < 2 ^ 64 → length (decimal n) ≤ 20

@@ -4,7 +4,7 @@ ghost use Rattle.arrayvec.specs.ArrayVec.{array_vec_len};
 ghost use Rattle.instructions.specs.Lines.{letter, mnemonic, shown, operand_text, line_of};
 
 use super::instruction::{Instruction, Operand};
-use super::text::{add, add_number};
+use super::text::{add, add_number, digits_in};
 use arrayvec::ArrayVec;
 use points::Area;
 
@@ -52,6 +52,18 @@ impl Instruction {
         }
     }
 
+    /// How many bytes the line has, its end included.
+    pub(crate) fn line_len(self) -> usize
+        ensures value { result ≡ length (line_of self) }
+        ensures bound { result ≤ 11 }
+    {
+        let part = match self.operand() {
+            None => 0,
+            Some(operand) => 1 + operand.text_len(),
+        };
+        self.mnemonic().len() + part + 1
+    }
+
     /// The line, its end included.
     pub(crate) fn line(self) -> Line
         ensures { result.items ≡ line_of self }
@@ -68,6 +80,17 @@ impl Instruction {
 }
 
 impl Operand {
+    /// How many bytes the operand's text has.
+    fn text_len(self) -> usize
+        ensures value { result ≡ length (operand_text self) }
+        ensures bound { result ≤ 5 }
+    {
+        match self {
+            Operand::True => 4,
+            Operand::At(point) => 2 + digits_in(point.number),
+        }
+    }
+
     /// Adds the operand's text to a line.
     #[tactic(auto, using(crate::proofs::Texts::three_digits))]
     fn add_to(self, line: &mut Line)

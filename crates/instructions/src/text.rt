@@ -14,6 +14,18 @@ pub(crate) fn add<const ROOM: usize>(text: &mut ArrayVec<u8, ROOM>, bytes: &[u8]
     let _ = text.try_extend_from_slice(bytes);
 }
 
+/// How many digits a small number has.
+pub(crate) fn digits_in(number: u8) -> usize
+    ensures value { result ≡ length (decimal number) }
+    ensures bound { result ≤ 3 }
+{
+    match number {
+        0..=9 => 1,
+        10..=99 => 2,
+        _ => 3,
+    }
+}
+
 /// Adds a number in decimal.
 pub(crate) fn add_number<const ROOM: usize>(text: &mut ArrayVec<u8, ROOM>, number: usize)
     requires { array_vec_len text.old + length (decimal number) ≤ ROOM }
