@@ -1,4 +1,6 @@
 //! The answers, a line each.
+ghost use Rattle.std.specs.Prelude.{◌<◌};
+
 use crate::fault::Cause;
 use controller::{InstallFault, Refusal};
 use instructions::ShortBuffer;
@@ -37,8 +39,15 @@ impl<'a> Answers<'a> {
         Ok(())
     }
 
+    /// A word that stands alone.
+    // Pushed and not by `line`: nearly every answer is a word, and needs no formatter.
+    pub(crate) fn word(&mut self, said: &str) -> Result<(), Cause> {
+        self.text.push_str(said)?;
+        self.end()
+    }
+
     pub(crate) fn done(&mut self) -> Result<(), Cause> {
-        self.line("ok")
+        self.word("ok")
     }
 
     /// A refusal that has no place.
@@ -93,13 +102,22 @@ impl<'a> Answers<'a> {
     }
 }
 
+/// A hexadecimal digit.
+fn digit(value: u8) -> char
+    requires { value < 16 }
+{
+    char::from(b"0123456789abcdef"[value as usize])
+}
+
 /// Two hexadecimal digits a byte; `-` for none.
+// Not by `{:02x}`: with a formatter for each byte of a buffer this took three to six times as long.
 pub(crate) fn write_bytes(bytes: &[u8], out: &mut String) -> Result<(), Cause> {
     if bytes.is_empty() {
         out.push('-')?;
     }
     for byte in bytes {
-        write!(out, "{byte:02x}")?;
+        out.push(digit(*byte / 16))?;
+        out.push(digit(*byte % 16))?;
     }
     Ok(())
 }

@@ -53,7 +53,7 @@ fn exchange<B: Bank>(
 fn answer_look<S: Notation>(signal: Option<S>, answers: &mut Answers<'_>) -> Result<(), Cause> {
     match signal {
         Some(signal) => signal.write(answers.text())?,
-        None => return answers.line("nothing"),
+        None => return answers.word("nothing"),
     }
     answers.end()
 }
@@ -84,7 +84,7 @@ where
         Command::Count => answers.line(pile.count())?,
         Command::Look(index) => answer_look(pile.read(index), answers)?,
         // Whether the write altered a point.
-        Command::Put(index, signal) => answers.line(if pile.write(index, signal) {
+        Command::Put(index, signal) => answers.word(if pile.write(index, signal) {
             "written"
         } else {
             "nothing"

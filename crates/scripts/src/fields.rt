@@ -87,8 +87,13 @@ pub(crate) fn listed(field: &str) -> Result<&str, Cause> {
 
 /// The bytes that a field says, two hexadecimal digits each; `-` for none.
 pub fn bytes_in(heap: Global, field: &str) -> Result<Vec<u8>, Cause> {
+    let digits = listed(field)?.as_bytes();
+    // Tested before a byte is kept, so that a long field with a digit too many takes no time and no memory.
+    if digits.len() % 2 != 0 {
+        return Err(Cause::NotACommand);
+    }
     let mut bytes = Vec::new(heap);
-    for pair in listed(field)?.as_bytes().chunks(2) {
+    for pair in digits.chunks_exact(2) {
         bytes.push(byte_of(pair).ok_or(Cause::NotACommand)?)?;
     }
     Ok(bytes)

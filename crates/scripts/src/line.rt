@@ -4,57 +4,63 @@ use crate::fields::Fields;
 use std::alloc::Global;
 use std::str::from_utf8;
 
-/// A line of a script.
+/// Lines of a script, one after the other.
+// Only the first is numbered: a number beside each would take half as much memory again.
 #[derive(Clone, Copy)]
-pub(crate) struct Line<'a> {
-    /// Counted from 1.
-    number: usize,
-    pub(crate) text: &'a str,
+pub(crate) struct Lines<'a> {
+    /// The number of the first line, counted from 1.
+    pub(crate) number: usize,
+    pub(crate) texts: &'a [&'a str],
 }
 
-impl<'a> Line<'a> {
-    /// What is wrong, at this line.
-    pub(crate) fn fault(self, cause: Cause) -> ScriptFault {
+impl<'a> Lines<'a> {
+    /// The first line, and those behind it.
+    pub(crate) fn split_first(self) -> Option<(&'a str, Lines<'a>)> {
+        let (first, rest) = self.texts.split_first()?;
+        let rest = Lines {
+            number: self.number.saturating_add(1),
+            texts: rest,
+        };
+        Some((*first, rest))
+    }
+
+    /// What is wrong, at the line so many behind the first.
+    pub(crate) fn fault(self, behind: usize, cause: Cause) -> ScriptFault {
         ScriptFault {
-            line: self.number,
+            line: self.number.saturating_add(behind),
             cause,
         }
     }
+}
 
-    /// Whether the first word of the line is this one.
-    pub(crate) fn begins(self, word: &str) -> bool {
-        Fields::of(self.text).more() == Some(word)
-    }
+/// Whether the first word of a line is this one.
+// Without looking for the end of the word: every line is asked for two words, and hardly any begins with one.
+pub(crate) fn begins(text: &str, word: &str) -> bool {
+    text.strip_prefix(word)
+        .is_some_and(|rest| rest.is_empty() || rest.starts_with(' '))
+}
 
-    /// The kind that the line names.
-    pub(crate) fn kind(self) -> Result<&'a str, Cause> {
-        let mut fields = Fields::of(self.text);
-        if fields.field()? != "kind" {
-            return Err(Cause::NoBank);
-        }
-        let kind = fields.field()?;
-        fields.end()?;
-        Ok(kind)
+/// The kind that a line names.
+pub(crate) fn kind_in(text: &str) -> Result<&str, Cause> {
+    let mut fields = Fields::of(text);
+    if fields.field()? != "kind" {
+        return Err(Cause::NoBank);
     }
+    let kind = fields.field()?;
+    fields.end()?;
+    Ok(kind)
 }
 
 /// The lines of a script; a byte that is not text is no command.
-pub(crate) fn lines_of<'a>(heap: Global, text: &'a [u8]) -> Result<Vec<Line<'a>>, ScriptFault> {
+pub(crate) fn lines_of<'a>(heap: Global, text: &'a [u8]) -> Result<Vec<&'a str>, ScriptFault> {
     let text = from_utf8(text).map_err(|error| ScriptFault {
         line: line_at(text, error.valid_up_to()),
         cause: Cause::NotACommand,
     })?;
-    text.lines()
-        .enumerate()
-        .map(|(at, text)| Line {
-            number: at.saturating_add(1),
-            text,
-        })
-        .collect(heap)
-        .map_err(|_| ScriptFault {
-            line: 1,
-            cause: Cause::NoMemory,
-        })
+    text.lines().collect(heap).map_err(|_| ScriptFault {
+        line: 1,
+        cause: Cause::NoMemory,
+    })
 }
 
 /// The line of a byte, counted from 1.

@@ -5,7 +5,7 @@ use crate::calling::call;
 use crate::command::{Command, command_in};
 use crate::fault::{Cause, ScriptFault};
 use crate::fields::{Fields, bytes_in};
-use crate::line::{Line, lines_of};
+use crate::line::{Lines, begins, kind_in, lines_of};
 use crate::memory::Memory;
 use crate::notation::Notation;
 use banks::{Bank, OpenBank, PackedBank};
@@ -17,16 +17,16 @@ use std::alloc::Global;
 /// Performs the calls of a controller.
 fn run_calls<B: Bank + Drop>(
     mut controller: Controller<B>,
-    lines: &[Line<'_>],
+    lines: Lines<'_>,
     answers: &mut Answers<'_>,
 ) -> Result<(), ScriptFault>
 where
     B::Kind: Notation,
 {
-    for line in lines {
-        command_in(line.text)
+    for (at, line) in lines.texts.iter().enumerate() {
+        command_in(*line)
             .and_then(|command| call(&mut controller, command, answers))
-            .map_err(|cause| line.fault(cause))?;
+            .map_err(|cause| lines.fault(at, cause))?;
     }
     Ok(())
 }
@@ -34,19 +34,23 @@ where
 /// Performs the commands on a bank: those before a controller is made of it, and those after.
 fn run_bank<B: Bank + Memory + Drop>(
     bank: B,
-    lines: &[Line<'_>],
+    lines: Lines<'_>,
     answers: &mut Answers<'_>,
 ) -> Result<(), ScriptFault>
 where
     B::Kind: Notation,
 {
     let mut pile = Pile::over(bank);
-    for (at, line) in lines.iter().enumerate() {
-        let command = command_in(line.text).map_err(|cause| line.fault(cause))?;
+    for (at, line) in lines.texts.iter().enumerate() {
+        let command = command_in(*line).map_err(|cause| lines.fault(at, cause))?;
         if let Command::Make = command {
-            return run_calls(Controller::make(pile), &lines[at + 1..], answers);
+            let calls = Lines {
+                number: lines.number.saturating_add(at).saturating_add(1),
+                texts: &lines.texts[at + 1..],
+            };
+            return run_calls(Controller::make(pile), calls, answers);
         }
-        pile = arrange(pile, command, answers).map_err(|cause| line.fault(cause))?;
+        pile = arrange(pile, command, answers).map_err(|cause| lines.fault(at, cause))?;
     }
     Ok(())
 }
@@ -87,30 +91,34 @@ fn bank_in<S: Notation>(line: &str) -> Result<Described<'_>, Cause> {
 
 /// Performs a section: the first line describes a bank, and the commands that follow are for it.
 fn run_section<S: Notation>(
-    section: &[Line<'_>],
+    section: Lines<'_>,
     answers: &mut Answers<'_>,
 ) -> Result<(), ScriptFault> {
     let Some((first, rest)) = section.split_first() else {
         return Ok(());
     };
-    match bank_in::<S>(first.text).map_err(|cause| first.fault(cause))? {
+    match bank_in::<S>(first).map_err(|cause| section.fault(0, cause))? {
         Described::Open(fields) => {
-            let mut cells = cells_in::<S>(answers.heap(), fields).map_err(|cause| first.fault(
-                cause,
+            let mut cells = cells_in::<S>(answers.heap(), fields).map_err(|cause| section.fault(
+                0, cause,
             ))?;
             run_bank(OpenBank::over(&mut cells), rest, answers)
         }
         Described::Packed(fields) => {
-            let mut bytes = packed_in(answers.heap(), fields).map_err(|cause| first.fault(cause))?;
+            let mut bytes = packed_in(answers.heap(), fields).map_err(|cause| section.fault(
+                0, cause,
+            ))?;
             run_bank(PackedBank::over(&mut bytes), rest, answers)
         }
     }
 }
 
 /// Performs the commands on one kind, bank after bank.
-fn run_kind<S: Notation>(lines: &[Line<'_>], answers: &mut Answers<'_>) -> Result<(), ScriptFault> {
-    for section in lines.chunk_by(|_, next| !next.begins("bank")) {
-        run_section::<S>(section, answers)?;
+fn run_kind<S: Notation>(lines: Lines<'_>, answers: &mut Answers<'_>) -> Result<(), ScriptFault> {
+    let mut number = lines.number;
+    for texts in lines.texts.chunk_by(|_, next| !begins(*next, "bank")) {
+        run_section::<S>(Lines { number, texts }, answers)?;
+        number = number.saturating_add(texts.len());
     }
     Ok(())
 }
@@ -123,20 +131,23 @@ fn run_sections<F>(
     mut run: F,
 ) -> Result<(), ScriptFault>
 where
-    F: FnMut(&str, &[Line<'_>], &mut Answers<'_>) -> Option<Result<(), ScriptFault>>,
+    F: FnMut(&str, Lines<'_>, &mut Answers<'_>) -> Option<Result<(), ScriptFault>>,
     requires { F.IsAlwaysCallable run }
 {
     let lines = lines_of(heap, text)?;
     let mut answers = Answers::after(out);
-    for section in lines.chunk_by(|_, next| !next.begins("kind")) {
+    let mut number = 1usize;
+    for texts in lines.chunk_by(|_, next| !begins(*next, "kind")) {
+        let section = Lines { number, texts };
         let Some((first, rest)) = section.split_first() else {
             return Ok(());
         };
-        let kind = first.kind().map_err(|cause| first.fault(cause))?;
+        let kind = kind_in(first).map_err(|cause| section.fault(0, cause))?;
         match run(kind, rest, &mut answers) {
             Some(outcome) => outcome?,
-            None => return Err(first.fault(Cause::NoSuchKind)),
+            None => return Err(section.fault(0, Cause::NoSuchKind)),
         }
+        number = number.saturating_add(texts.len());
     }
     Ok(())
 }
