@@ -68,36 +68,60 @@ fn is_in_case(byte: u8) -> bool {
 /// The byte of two hexadecimal digits.
 fn byte_of(pair: &[u8]) -> u8 {
     pair.iter().fold(0u8, |value, digit| {
-        let digit = char::from(*digit).to_digit(16).unwrap_or(0);
-        value.wrapping_mul(16).wrapping_add((digit & 0xf) as u8)
+        let digit = if *digit < b'a' {
+            digit.wrapping_sub(b'0')
+        } else {
+            digit.wrapping_sub(b'a').wrapping_add(10)
+        };
+        value.wrapping_mul(16).wrapping_add(digit)
     })
 }
 
-/// The bytes of hexadecimal digits, two a byte.
-fn bytes_of(rt: &HostRuntime, case: &[u8]) -> io::Result<Vec<u8>> {
-    let mut digits = Vec::new(rt.alloc());
-    for byte in case {
-        if *byte != b'#' {
-            digits.push(*byte)?;
-        }
-    }
-    let mut bytes = Vec::new(rt.alloc());
-    for pair in digits.as_slice().chunks_exact(2) {
+/// The bytes of hexadecimal digits, two a byte; a last digit alone is none.
+fn bytes_of(rt: &HostRuntime, digits: &[u8]) -> io::Result<Vec<u8>> {
+    let mut bytes = Vec::with_capacity(rt.alloc(), digits.len() / 2)?;
+    for pair in digits.chunks_exact(2) {
         bytes.push(byte_of(pair))?;
     }
     Ok(bytes)
 }
 
+/// The digits of a case, among which its marks stand.
+fn digits_of(rt: &HostRuntime, case: &[u8]) -> io::Result<Vec<u8>> {
+    let mut digits = Vec::new(rt.alloc());
+    for byte in case.iter().filter(|byte| **byte != b'#') {
+        digits.push(*byte)?;
+    }
+    Ok(digits)
+}
+
+/// Prints what `startline` prints for a card.
+fn print_card(rt: &HostRuntime, card: &[u8]) -> io::Result<()> {
+    let mut program = Program::empty();
+    let taken = take_card(card, &mut Store::new(), &mut program);
+    print_outcome(rt, &program, taken, LadderFault::write_line)
+}
+
+/// Prints what `startline` prints for a listing.
+fn print_listing(rt: &HostRuntime, listing: &[u8]) -> io::Result<()> {
+    let mut program = Program::empty();
+    let taken = read_into(listing, &mut program);
+    print_outcome(rt, &program, taken, ListingFault::write_line)
+}
+
 /// Prints what `startline` prints for a card, or for the listing that a `#` marks.
 fn print_case(rt: &HostRuntime, case: &[u8]) -> io::Result<()> {
-    let bytes = bytes_of(rt, case)?;
-    let mut program = Program::empty();
-    if case.contains(&b'#') {
-        let taken = read_into(bytes.as_slice(), &mut program);
-        print_outcome(rt, &program, taken, ListingFault::write_line)
-    } else {
-        let taken = take_card(bytes.as_slice(), &mut Store::new(), &mut program);
-        print_outcome(rt, &program, taken, LadderFault::write_line)
+    let marked = case.strip_prefix(b"#");
+    let digits = marked.unwrap_or(case);
+    // Only where a mark stands behind the first byte are the digits put together, which takes memory for each of them.
+    if digits.contains(&b'#') {
+        let digits = digits_of(rt, digits)?;
+        return print_listing(rt, bytes_of(rt, digits.as_slice())?.as_slice());
+    }
+    let bytes = bytes_of(rt, digits)?;
+    match marked {
+        Some(_) => print_listing(rt, bytes.as_slice()),
+        None => print_card(rt, bytes.as_slice()),
     }
 }
 
