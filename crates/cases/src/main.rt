@@ -60,81 +60,105 @@ where
     }
 }
 
-/// Whether a byte stands in a case; every other byte ends one.
-fn is_in_case(byte: u8) -> bool {
-    matches!(byte, b'0'..=b'9' | b'a'..=b'f' | b'#')
+/// Whether a byte is a hexadecimal digit; every other byte but `#` ends a case.
+fn is_digit(byte: u8) -> bool {
+    matches!(byte, b'0'..=b'9' | b'a'..=b'f')
 }
 
-/// The byte of two hexadecimal digits.
-fn byte_of(pair: &[u8]) -> u8 {
-    pair.iter().fold(0u8, |value, digit| {
-        let digit = if *digit < b'a' {
-            digit.wrapping_sub(b'0')
-        } else {
-            digit.wrapping_sub(b'a').wrapping_add(10)
+/// The value of a hexadecimal digit.
+fn value(digit: u8) -> u8 {
+    if digit < b'a' {
+        digit.wrapping_sub(b'0')
+    } else {
+        digit.wrapping_sub(b'a').wrapping_add(10)
+    }
+}
+
+/// A case as far as it is read.
+#[derive(Drop)]
+struct Case {
+    /// The bytes of its digits, two a byte.
+    bytes: Vec<u8>,
+    /// A digit whose second has not come; at the end of a case it is none.
+    first: Option<u8>,
+    /// Whether a `#` marks a listing.
+    marked: bool,
+}
+
+impl Case {
+    /// Adds digits that follow one another.
+    fn add(&mut self, digits: &[u8]) -> io::Result<()> {
+        let Some((second, rest)) = digits.split_first() else {
+            return Ok(());
         };
-        value.wrapping_mul(16).wrapping_add(digit)
-    })
-}
-
-/// The bytes of hexadecimal digits, two a byte; a last digit alone is none.
-fn bytes_of(rt: &HostRuntime, digits: &[u8]) -> io::Result<Vec<u8>> {
-    let mut bytes = Vec::with_capacity(rt.alloc(), digits.len() / 2)?;
-    for pair in digits.chunks_exact(2) {
-        bytes.push(byte_of(pair))?;
+        let whole = match self.first.take() {
+            Some(first) => {
+                self.add_byte(first, *second)?;
+                rest
+            }
+            None => digits,
+        };
+        // Marks between all digits leave rows of one.
+        if let [alone] = whole {
+            self.first = Some(*alone);
+            return Ok(());
+        }
+        for pair in whole.chunks_exact(2) {
+            if let [first, second] = pair {
+                self.add_byte(*first, *second)?;
+            }
+        }
+        if whole.len() % 2 != 0 {
+            self.first = whole.last().copied();
+        }
+        Ok(())
     }
-    Ok(bytes)
-}
 
-/// The digits of a case, among which its marks stand.
-fn digits_of(rt: &HostRuntime, case: &[u8]) -> io::Result<Vec<u8>> {
-    let mut digits = Vec::new(rt.alloc());
-    for byte in case.iter().filter(|byte| **byte != b'#') {
-        digits.push(*byte)?;
+    fn add_byte(&mut self, first: u8, second: u8) -> io::Result<()> {
+        let byte = value(first).wrapping_mul(16).wrapping_add(value(second));
+        self.bytes.push(byte)?;
+        Ok(())
     }
-    Ok(digits)
-}
 
-/// Prints what `startline` prints for a card.
-fn print_card(rt: &HostRuntime, card: &[u8]) -> io::Result<()> {
-    let mut program = Program::empty();
-    let taken = take_card(card, &mut Store::new(), &mut program);
-    print_outcome(rt, &program, taken, LadderFault::write_line)
-}
-
-/// Prints what `startline` prints for a listing.
-fn print_listing(rt: &HostRuntime, listing: &[u8]) -> io::Result<()> {
-    let mut program = Program::empty();
-    let taken = read_into(listing, &mut program);
-    print_outcome(rt, &program, taken, ListingFault::write_line)
-}
-
-/// Prints what `startline` prints for a card, or for the listing that a `#` marks.
-fn print_case(rt: &HostRuntime, case: &[u8]) -> io::Result<()> {
-    let marked = case.strip_prefix(b"#");
-    let digits = marked.unwrap_or(case);
-    // Only where a mark stands behind the first byte are the digits put together, which takes memory for each of them.
-    if digits.contains(&b'#') {
-        let digits = digits_of(rt, digits)?;
-        return print_listing(rt, bytes_of(rt, digits.as_slice())?.as_slice());
-    }
-    let bytes = bytes_of(rt, digits)?;
-    match marked {
-        Some(_) => print_listing(rt, bytes.as_slice()),
-        None => print_card(rt, bytes.as_slice()),
+    /// Prints what `startline` prints for the card, or for the listing, and begins another case.
+    fn print(&mut self, rt: &HostRuntime) -> io::Result<()> {
+        let mut program = Program::empty();
+        if self.marked {
+            let taken = read_into(self.bytes.as_slice(), &mut program);
+            print_outcome(rt, &program, taken, ListingFault::write_line)?;
+        } else {
+            let taken = take_card(self.bytes.as_slice(), &mut Store::new(), &mut program);
+            print_outcome(rt, &program, taken, LadderFault::write_line)?;
+        }
+        self.bytes.clear();
+        self.first = None;
+        self.marked = false;
+        Ok(())
     }
 }
 
 fn main(rt: HostRuntime) -> io::Result<()> {
     let mut text = Vec::new(rt.alloc());
     rt.stdin().read_to_end(&mut text)?;
-    for case in text.as_slice().split_inclusive(|byte| !is_in_case(*byte)) {
-        let Some((end, case)) = case.split_last() else {
+    let mut case = Case {
+        bytes: Vec::new(rt.alloc()),
+        first: None,
+        marked: false,
+    };
+    // Digits are decoded where they stand: a row of them beside their bytes took twice the memory.
+    for part in text.as_slice().split_inclusive(|byte| !is_digit(*byte)) {
+        let Some((end, digits)) = part.split_last() else {
             return Ok(());
         };
         // What stands behind the last end is no case.
-        if !is_in_case(*end) {
-            print_case(&rt, case)?;
+        if is_digit(*end) {
+            return Ok(());
+        }
+        case.add(digits)?;
+        if *end == b'#' {
+            case.marked = true;
+        } else {
+            case.print(&rt)?;
         }
     }
     Ok(())
